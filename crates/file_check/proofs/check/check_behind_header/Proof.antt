@@ -1,0 +1,57 @@
+-- `file_check::check::check_behind_header` meets its contract. Assumes nothing.
+use mathlib.Core.Path.{sym, ap, _∙_}
+use Rattle.format.specs.Card.{cardsFrom}
+use Rattle.format.specs.Rule.{verdictOf}
+use Rattle.file_check.specs.Walk.{layoutFrom, behindTables}
+use Rattle.file_check.proofs.Reading.{header-is, cards-place}
+use Rattle.file_check.proofs.TableRow.{tables-passed, tables-refused}
+use borrow.Author.Needs.{needs}
+use Rattle.file_check.proofs.check.check_behind_header.Statement.{statement}
+use Rattle.file_check.proofs.check.check_behind_header.Tie as tie
+
+parse-v4-cards-requires : tie.Need-parse-v4-cards-requires
+parse-v4-cards-requires c κs = search needs
+
+check-layout-requires : tie.Need-check-layout-requires
+check-layout-requires c κs = search needs
+
+enum-told : tie.Need-enum-told
+enum-told c = search needs
+
+check-behind-tables-requires : tie.Need-check-behind-tables-requires
+check-behind-tables-requires c κs = search needs
+
+enum-known-refusal : tie.Need-enum-known-refusal
+enum-known-refusal c = search needs
+
+refused-file-requires : tie.Need-refused-file-requires
+refused-file-requires c κs = search needs
+
+returns : tie.Need-returns
+returns c =
+    let s = c .before .before .before .before .before .before .before in
+    let read = c .before .before .before .before .before .parse-v4-cards in
+    let file = s .args .file .now in
+    let header = s .args .header in
+    rw (cards-place file header (header-is file header (s .pre)), tables-passed (verdictOf (read .result .verdict)) (layoutFrom header file) (read .result .cards) (behindTables file header) (cardsFrom file (header .«card_count») 48 0) (read .ensures) (sym (c .before .before .before .check-layout .ensures) ∙ ap verdictOf (c .before .enum-told .given .1))) (c .check-behind-tables .ensures)
+
+returns-2 : tie.Need-returns-2
+returns-2 c =
+    let s = c .before .before .before .before .before .before .before .before in
+    let read = c .before .before .before .before .before .before .parse-v4-cards in
+    let file = s .args .file .now in
+    let header = s .args .header in
+    rw (cards-place file header (header-is file header (s .pre)), tables-refused (verdictOf (read .result .verdict)) (layoutFrom header file) (read .result .cards) (behindTables file header) (cardsFrom file (header .«card_count») 48 0) _ _ (read .ensures) (sym (c .before .before .before .before .check-layout .ensures) ∙ ap verdictOf (c .before .before .refusal .given .1))) (c .refused-file .ensures)
+
+pub check-behind-header-spec : {M : Type 1} → statement M
+check-behind-header-spec =
+    tie.close
+    (tie.spec
+    parse-v4-cards-requires
+    check-layout-requires
+    enum-told
+    check-behind-tables-requires
+    enum-known-refusal
+    refused-file-requires
+    returns
+    returns-2)

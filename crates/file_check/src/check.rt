@@ -1,0 +1,94 @@
+// The whole file: the rules 1 to 20.
+use crate::layout::check_layout;
+use crate::parts::PartsRead;
+use crate::parts::check_parts;
+use format::CardRequirement;
+use format::CardTable;
+use format::Header;
+use format::Refusal;
+use format::Verdict;
+use header::HeaderRead;
+use header::read_header;
+use tables::parse_v4_cards;
+ghost use mathlib.Core.Path.{_≡_};
+ghost use Rattle.format.specs.Checked.{ok};
+ghost use Rattle.format.specs.Header.{headerFrom};
+ghost use Rattle.format.specs.Rule as rule;
+ghost use Rattle.file_check.specs.Answer.{fileCheckOf, whole, recorded};
+ghost use Rattle.file_check.specs.Walk.{behindTables, behindHeader};
+
+// An accepted file's header, with whether an operation has target 11; or the refusal.
+pub enum FileAnswer {
+    Accepted { header: Header, uses_si22: bool },
+    Refused(Refusal),
+}
+
+// The answer, and the table of cards, which has none where the file is refused.
+pub struct FileCheck {
+    pub answer: FileAnswer,
+    pub cards: CardTable,
+}
+
+// A refused file.
+fn refused_file(refusal: Refusal) -> FileCheck
+    ensures { λ r. ⌜ fileCheckOf r ≡ whole (rule.refusal refusal) ⌝ }
+{
+    let id = [0; 16];
+    let none = CardRequirement {
+        slot: 0,
+        id_length: 0,
+        id_offset: 0,
+        bulk_start: 0,
+        bulk_length: 0,
+        id: id,
+    };
+    let cards = [none; 8];
+    let table = CardTable {
+        cards: cards,
+        count: 0,
+    };
+    FileCheck {
+        answer: FileAnswer::Refused(refusal),
+        cards: table,
+    }
+}
+
+// The opening and the frames behind the tables.
+fn check_behind_tables(file: &[u8], header: Header, cards: CardTable) -> FileCheck
+    ensures { λ r. ⌜ fileCheckOf r ≡ whole (behindTables (now (file .entry)) header cards) ⌝ }
+{
+    match check_parts(file, header, cards) {
+        PartsRead::Whole { si22 } => FileCheck {
+            answer: FileAnswer::Accepted {
+                header,
+                uses_si22: si22,
+            },
+            cards,
+        },
+        PartsRead::Refused(refusal) => refused_file(refusal),
+    }
+}
+
+// The tables and the parts behind the header.
+fn check_behind_header(file: &[u8], header: Header) -> FileCheck
+    requires { ⌜ headerFrom (now file) ≡ ok header ⌝ }
+    ensures { λ r. ⌜ fileCheckOf r ≡ whole (behindHeader (now (file .entry)) header) ⌝ }
+{
+    let read = parse_v4_cards(file, header.card_count);
+    let verdict = read.verdict;
+    let cards = read.cards;
+    match check_layout(file, header, verdict) {
+        Verdict::Allowed => check_behind_tables(file, header, cards),
+        Verdict::Refused(refusal) => refused_file(refusal),
+    }
+}
+
+// A file's header, its cards and whether it uses target 11; or the first of the rules 1 to 20 that it breaks.
+pub fn check_file(file: &[u8]) -> FileCheck
+    ensures { λ r. ⌜ fileCheckOf r ≡ recorded (now (file .entry)) ⌝ }
+{
+    match read_header(file) {
+        HeaderRead::Found(header) => check_behind_header(file, header),
+        HeaderRead::Refused(rule) => refused_file(Refusal { rule, place: 0 }),
+    }
+}

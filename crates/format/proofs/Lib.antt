@@ -1,0 +1,15 @@
+pub mod Checks
+pub mod Bytes
+pub mod Cards
+pub mod Decided
+pub mod Sizes
+pub mod Same
+pub mod Compared
+pub mod Steps
+pub mod Accepted
+pub mod Rules
+pub mod Computed
+pub mod Samples
+pub mod Examples
+pub mod Round
+pub mod Playing

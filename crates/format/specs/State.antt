@@ -1,0 +1,68 @@
+-- A player's state, and the state that a start gives.
+use Prim.Native.Nat.{ℕ, _+_, _*_, _-_}
+use mathlib.Core.Bool.{Bool, true, false, cond, _&&_}
+use mathlib.Core.List.{List, [], _++_}
+use lib.ListN.{length, getD, replicate}
+use lib.Dec.{ltb}
+use Rattle.format.specs.declared.card.CardRequirement.{CardRequirement}
+use Rattle.format.specs.declared.card.CardTable.{CardTable}
+use Rattle.format.specs.declared.player.Part.{Part}
+use Rattle.format.specs.declared.player.Part.the-variants.{Between, Opening, Frame, Closing}
+use Rattle.format.specs.declared.player.Progress.{Progress}
+use Rattle.format.specs.declared.player.StreamPlayer.{StreamPlayer}
+use Rattle.format.specs.declared.player.WaveSource.{WaveSource}
+use Rattle.format.specs.Bytes.{part}
+use Rattle.format.specs.Checked.{Checked, ok, refused}
+use Rattle.format.specs.Header.{headerOf}
+use Rattle.format.specs.Stream.{Stream, read}
+use Rattle.format.specs.Writes.{usesSi22}
+
+-- a card that is all 0
+abbrev pub noCard : CardRequirement
+noCard = record { slot = 0; «id_length» = 0; «id_offset» = 0; «bulk_start» = 0; «bulk_length» = 0; id = replicate 16 0 }
+
+-- "eight cards by value with a count; cards beyond the count are all 0"
+unfoldable pub tableOf : List CardRequirement → CardTable
+tableOf cards = record { cards = cards ++ replicate (8 - length cards) noCard; count = length cards }
+
+-- what is playing, as a number
+abbrev pub partNumber : Part → ℕ
+partNumber Between = 0
+partNumber Opening = 1
+partNumber Frame = 2
+partNumber Closing = 3
+
+-- no pool was copied yet
+abbrev pub noWave : WaveSource
+noWave = record { copied = false; pool = 0 }
+
+-- before the first vsync
+unfoldable pub unplayed : (finished : Bool) → (cursor : ℕ) → Progress
+unplayed finished cursor =
+    record { part = Between; cursor = cursor; «operation_index» = 0; «operation_count» = 0; «write_index» = 0; «frame_index» = 0; initialized = false; finished = finished; «wave_sources» = replicate 16 noWave }
+
+-- the state of a player of an accepted file
+unfoldable pub playerOf : List ℕ → Stream → Progress → StreamPlayer
+playerOf file s progress = record { header = headerOf file; cards = tableOf (s .cards); «uses_si22» = usesSi22 s; progress = progress }
+
+-- "a refused player start gives back a finished state with recorded size 0"
+unfoldable pub refusedPlayer : StreamPlayer
+refusedPlayer =
+    record { header = record { version = 0; repeat = false; «frame_period» = 0; «card_count» = 0; «frame_count» = 0; «pool_count» = 0; «initial_count» = 0; «directory_offset» = 0; «initial_start» = 0; «frame_start» = 0; «total_size» = 0 }; cards = tableOf []; «uses_si22» = false; progress = unplayed true 0 }
+
+-- the state that a start gives; what it refuses, `read` says
+unfoldable pub startedAs : List ℕ → Checked Stream → StreamPlayer
+startedAs file (ok s) = playerOf file s (unplayed false (headerOf file .«frame_start»))
+startedAs file (refused number place) = refusedPlayer
+
+abbrev pub started : List ℕ → StreamPlayer
+started file = startedAs file (read file)
+
+-- the same state with other progress: all else is "as its start recorded it"
+abbrev pub moved : StreamPlayer → Progress → StreamPlayer
+moved state progress = record { header = state .header; cards = state .cards; «uses_si22» = state .«uses_si22»; progress = progress }
+
+-- "the pool last copied by a kind 1 COPY to that core and address div 256; outside 2 × 8, none"
+unfoldable pub waveSource : StreamPlayer → (core channel : ℕ) → WaveSource
+waveSource state core channel =
+    cond (ltb core 2 && ltb channel 8) (getD (state .progress .«wave_sources») (core * 8 + channel) noWave) noWave

@@ -1,0 +1,35 @@
+-- `operation::walk::step` meets its contract. Assumes nothing.
+use borrow.Author.Needs.{needs}
+use Rattle.operation.proofs.walk.step.Statement.{statement}
+use Rattle.operation.proofs.walk.step.Tie as tie
+
+read-item-requires : tie.Need-read-item-requires
+read-item-requires c κs = search needs
+
+enum-known-operation : tie.Need-enum-known-operation
+enum-known-operation c = search needs
+
+si22-seen-requires : tie.Need-si22-seen-requires
+si22-seen-requires c κs = search needs
+
+enum-known-refusal : tie.Need-enum-known-refusal
+enum-known-refusal c = search needs
+
+returns : tie.Need-returns
+returns c =
+    let found = c .before .before in
+    simp (← (found .before .before .read-item .ensures), found .operation .given .1, c .si22-seen .ensures)
+
+returns-2 : tie.Need-returns-2
+returns-2 c = simp (← (c .before .before .before .read-item .ensures), c .before .refusal .given .1)
+
+pub step-spec : {M : Type 1} → statement M
+step-spec =
+    tie.close
+    (tie.spec
+    read-item-requires
+    enum-known-operation
+    si22-seen-requires
+    enum-known-refusal
+    returns
+    returns-2)

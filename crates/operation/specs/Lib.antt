@@ -1,0 +1,4 @@
+pub mod Answer
+pub mod Rules
+pub mod Quick
+pub mod Walk

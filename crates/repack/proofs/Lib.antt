@@ -1,0 +1,4 @@
+pub mod Master
+pub mod Pieces
+pub mod Result
+pub mod Table

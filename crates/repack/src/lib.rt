@@ -1,0 +1,3 @@
+// Repacking: a master, which is a file of version 1, as a file of version 2 in a lent buffer.
+mod measure;
+mod waves;

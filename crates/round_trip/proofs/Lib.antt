@@ -1,0 +1,15 @@
+pub mod Each
+pub mod Places
+pub mod Widths
+pub mod Items
+pub mod Tables
+pub mod Whole
+pub mod Taken
+pub mod Listed
+pub mod Rewritten
+pub mod Waves
+pub mod RepackedFrames
+pub mod RepackedOpening
+pub mod Repacked
+pub mod Written
+pub mod Reading

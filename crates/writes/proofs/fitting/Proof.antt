@@ -1,0 +1,51 @@
+-- `writes::fitting` meets its contract. Assumes nothing.
+use borrow.Author.Needs.{needs}
+use Rattle.writes.specs.Segment.{tooLong, fitting}
+use Rattle.writes.proofs.fitting.Statement.{statement}
+use Rattle.writes.proofs.fitting.Tie as tie
+
+passes-requires : tie.Need-passes-requires
+passes-requires c κs = search needs
+
+returns : tie.Need-returns
+unfolding tooLong fitting
+returns c = rw (← (c .before .passes .ensures), c .if1 .taken)
+
+cast-passes : tie.Need-cast-passes
+cast-passes c = search needs
+
+passes-requires-2 : tie.Need-passes-requires-2
+passes-requires-2 c κs = search needs
+
+returns-2 : tie.Need-returns-2
+unfolding tooLong fitting
+returns-2 c = rw (← (c .before .before .before .before .passes .ensures), c .before .before .before .if1 .left, ← (c .before .passes2 .ensures), c .if2 .taken)
+
+passes-requires-3 : tie.Need-passes-requires-3
+passes-requires-3 c κs = search needs
+
+returns-3 : tie.Need-returns-3
+unfolding tooLong fitting
+returns-3 c = rw (← (c .before .before .before .before .before .before .before .passes .ensures), c .before .before .before .before .before .before .if1 .left, ← (c .before .before .before .before .passes2 .ensures), c .before .before .before .if2 .left, c .before .before .if3 .taken, ← (c .before .passes3 .ensures), c .if4 .taken)
+
+returns-4 : tie.Need-returns-4
+unfolding tooLong fitting
+returns-4 c = rw (← (c .before .before .before .before .before .before .before .passes .ensures), c .before .before .before .before .before .before .if1 .left, ← (c .before .before .before .before .passes2 .ensures), c .before .before .before .if2 .left, c .before .before .if3 .taken, ← (c .before .passes3 .ensures), c .if4 .left)
+
+returns-5 : tie.Need-returns-5
+unfolding tooLong fitting
+returns-5 c = rw (← (c .before .before .before .before .before .passes .ensures), c .before .before .before .before .if1 .left, ← (c .before .before .passes2 .ensures), c .before .if2 .left, c .if3 .left)
+
+pub fitting-spec : {M : Type 1} → statement M
+fitting-spec =
+    tie.close
+    (tie.spec
+    passes-requires
+    returns
+    cast-passes
+    passes-requires-2
+    returns-2
+    passes-requires-3
+    returns-3
+    returns-4
+    returns-5)

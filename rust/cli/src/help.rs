@@ -1,0 +1,34 @@
+//! What the command can do.
+
+use crate::status::{Failure, Status};
+use std::io::Write;
+
+const HELP: &str = "\
+sgub checks SGUB music streams.
+
+  sgub check FILE...         print a line for each file:
+                               accepted VERSION FRAMES OPENING
+                               refused NUMBER PLACE
+  sgub explain [--all] FILE  print the line and what is behind it: for a refused file
+                             the rule that it breaks and the bytes at the place, for an
+                             accepted one its header, cards and pools (--all: every pool)
+  sgub help                  print this text
+  sgub --version             print the version of this command
+
+FILE - is standard input. Behind -- every argument is a file.
+
+Exit status: 0 every file is accepted, 1 a file is refused, 2 could not run: a file that
+cannot be read (the others are still checked) or a command that is not understood.
+";
+
+/// Prints the commands.
+pub fn help(out: &mut impl Write) -> Result<Status, Failure> {
+    out.write_all(HELP.as_bytes())?;
+    Ok(Status::Accepted)
+}
+
+/// Prints the version.
+pub fn version(out: &mut impl Write) -> Result<Status, Failure> {
+    writeln!(out, "sgub {}", env!("CARGO_PKG_VERSION"))?;
+    Ok(Status::Accepted)
+}

@@ -1,0 +1,53 @@
+//! Commands that are not understood, and those that say what there is.
+
+use crate::{run, sgub};
+
+#[track_caller]
+fn refused(arguments: &[&str], message: &str) {
+    let message = format!("sgub: {message}; 'sgub help' lists the commands\n");
+    run(arguments, 2, "", &message);
+}
+
+#[test]
+fn bad_usage_is_status_2() {
+    refused(&[], "no command");
+    refused(&["chek", "examples/empty-1.sgub"], "no command chek");
+    refused(&["check"], "check needs a file");
+    refused(
+        &["check", "--all", "examples/empty-1.sgub"],
+        "no option --all",
+    );
+    refused(&["check", "--"], "check needs a file");
+    refused(&["explain"], "explain takes one file");
+    refused(
+        &["explain", "examples/empty-1.sgub", "examples/empty-2.sgub"],
+        "explain takes one file",
+    );
+    refused(
+        &["explain", "--al", "examples/empty-1.sgub"],
+        "no option --al",
+    );
+}
+
+#[test]
+fn help_names_every_command() {
+    let output = sgub(["help"]).output().unwrap();
+    let text = String::from_utf8(output.stdout).unwrap();
+    for command in ["check FILE...", "explain [--all] FILE", "help", "--version"] {
+        assert!(text.contains(&format!("  sgub {command} ")), "{command}");
+    }
+    assert_eq!(output.status.code(), Some(0));
+    for alias in ["--help", "-h"] {
+        run(&[alias], 0, &text, "");
+    }
+}
+
+#[test]
+fn the_version_is_printed() {
+    run(
+        &["--version"],
+        0,
+        concat!("sgub ", env!("CARGO_PKG_VERSION"), "\n"),
+        "",
+    );
+}

@@ -1,0 +1,182 @@
+//! The files of `examples/`, made from values.
+
+use crate::model::{Card, FIRST_SLOT, Operation, PCM, Pool, SI22, Stream, WAVE};
+use crate::mutate;
+use crate::oracle;
+
+/// A file of `examples/`.
+pub struct Example {
+    /// Its name, without the ending `.sgub`.
+    pub name: &'static str,
+    /// Its bytes.
+    pub file: Vec<u8>,
+}
+
+/// All of them. What each is for stands in `examples/README.md`.
+///
+/// # Panics
+/// If the original does not repack the master.
+pub fn all() -> Vec<Example> {
+    let example = |name, file| Example { name, file };
+    let tune = tune().to_bytes();
+    let repacked = oracle::repack(&tune).expect("the original repacks an accepted master");
+    let cut_off = cut_off(&repacked);
+    vec![
+        example("empty-1", Stream::empty_frame(1).to_bytes()),
+        example("empty-2", Stream::empty_frame(2).to_bytes()),
+        example("empty-4", Stream::empty_frame(4).to_bytes()),
+        example("tune-1", tune),
+        example("tune-2", repacked),
+        example("bank-3", bank().to_bytes()),
+        example("cards-4", cards().to_bytes()),
+        example("refused-6", period_too_short().to_bytes()),
+        example("refused-7", equal_slots().to_bytes()),
+        example("refused-14", cut_off),
+        example("refused-16", record_too_high().to_bytes()),
+        example("refused-19", copy_off_its_place().to_bytes()),
+    ]
+}
+
+/// A master: eight bytes of PCM and the volumes of two channels in the opening; a wave and two notes in three frames.
+fn tune() -> Stream {
+    let mut stream = Stream::empty_frame(1);
+    stream.opening = (0..8)
+        .map(|n| Operation::write(PCM, n, 0x80 + 8 * n as u8))
+        .chain([
+            Operation::write(0, 0x803, 0xc0),
+            Operation::write(1, 0x803, 0xc0),
+        ])
+        .collect();
+    let note = |pitch| {
+        [
+            Operation::write(0, 0x800, pitch),
+            Operation::write(0, 0x801, 0x19),
+            Operation::write(0, 0x819, 1),
+        ]
+    };
+    let wave = triangle().into_iter().zip(0..);
+    stream.frames = vec![
+        wave.map(|(value, address)| Operation::write(0, address, value))
+            .chain(note(0x01))
+            .collect(),
+        Vec::new(),
+        note(0x02).to_vec(),
+    ];
+    stream
+}
+
+/// A repeating file of version 3 with a bank: a COPY, a FILL and a WRITE to target 3.
+fn bank() -> Stream {
+    Stream {
+        repeat: true,
+        pools: vec![Pool {
+            kind: 3,
+            payload: (1..=32).collect(),
+        }],
+        opening: vec![
+            Operation::fill(FIRST_SLOT, 0x20, 0x40, 0x80),
+            Operation::copy(FIRST_SLOT, 0, 0, 0, 32),
+        ],
+        frames: vec![
+            vec![Operation::write(FIRST_SLOT, 0x1ff_ffff, 1)],
+            vec![Operation::write(0, 0x803, 0)],
+        ],
+        ..Stream::empty_frame(3)
+    }
+}
+
+/// Version 4 with two cards, one of them without a bulk range, pools of every kind, target 11 and 60 frames a second.
+fn cards() -> Stream {
+    let pool = |kind, payload| Pool { kind, payload };
+    Stream {
+        period: 800_000,
+        cards: vec![card(0, b"SRC32-PCM", 0x1000, 0x8000), card(5, b"OPL", 0, 0)],
+        pools: vec![
+            pool(1, triangle()),
+            pool(2, vec![0x80, 0xc0, 0x80, 0x40]),
+            pool(3, (0..16).collect()),
+        ],
+        opening: vec![
+            Operation::copy(0, 0x100, 0, 0, WAVE),
+            Operation::copy(PCM, 0, 1, 0, 4),
+            Operation::fill(FIRST_SLOT, 0x1000, 0x8000, 0),
+            Operation::copy(FIRST_SLOT, 0x1010, 2, 0, 16),
+        ],
+        frames: vec![
+            vec![
+                Operation::write(SI22, 0x0c, 1),
+                Operation::write(FIRST_SLOT + 5, 0x20, 0x11),
+            ],
+            vec![
+                Operation::write(SI22, 0x3f, 0),
+                Operation::write(0, 0x819, 1),
+            ],
+        ],
+        ..Stream::empty_frame(4)
+    }
+}
+
+/// Version 4 with a period one below the least.
+fn period_too_short() -> Stream {
+    Stream {
+        period: 47_999,
+        ..Stream::empty_frame(4)
+    }
+}
+
+/// Version 4 with two cards for one slot.
+fn equal_slots() -> Stream {
+    Stream {
+        cards: vec![card(2, b"A", 0, 0), card(2, b"B", 0, 0)],
+        ..Stream::empty_frame(4)
+    }
+}
+
+/// The file without its last three bytes, and with a total size that says so.
+fn cut_off(file: &[u8]) -> Vec<u8> {
+    let mut shorter = Vec::new();
+    mutate::truncate(file, file.len() - 3, true, &mut shorter);
+    shorter
+}
+
+/// Version 1 with a record one behind a core's last register.
+fn record_too_high() -> Stream {
+    Stream {
+        opening: vec![Operation::write(0, 0x900, 0)],
+        ..Stream::empty_frame(1)
+    }
+}
+
+/// Version 2 with a COPY of a wave to an address that is no multiple of 256, behind one that is.
+fn copy_off_its_place() -> Stream {
+    Stream {
+        pools: vec![Pool {
+            kind: 1,
+            payload: triangle(),
+        }],
+        opening: vec![
+            Operation::copy(0, 0x100, 0, 0, WAVE),
+            Operation::copy(0, 0x180, 0, 0, WAVE),
+        ],
+        ..Stream::empty_frame(2)
+    }
+}
+
+/// A wave.
+fn triangle() -> Vec<u8> {
+    let up = (0..128).map(|n| 2 * n);
+    up.clone().chain(up.rev()).collect()
+}
+
+fn card(slot: u8, name: &[u8], bulk_start: u32, bulk_length: u32) -> Card {
+    let mut padded = [0; 16];
+    padded[..name.len()].copy_from_slice(name);
+    Card {
+        slot,
+        name_length: name.len() as u8,
+        name: padded,
+        name_offset: 0x100,
+        bulk_start,
+        bulk_length,
+    }
+}

@@ -1,0 +1,84 @@
+//! `include/sgub.h` again, and a safe function for each of its functions.
+//!
+//! No compiler compares these declarations with the header. A test does, with the help of a C compiler.
+
+/// `struct sgub_verdict`
+#[repr(C)]
+pub struct Verdict {
+    pub number: u32,
+    pub place: u64,
+    pub version: u8,
+    pub repeats: bool,
+    pub uses_si22: bool,
+    pub card_count: u8,
+    pub frame_period: u32,
+    pub frame_count: u32,
+    pub pool_count: u32,
+    pub initial_count: u32,
+    pub directory_offset: u32,
+    pub initial_start: u32,
+    pub frame_start: u64,
+    pub total_size: u32,
+}
+
+/// `struct sgub_card`
+#[repr(C)]
+pub struct Card {
+    pub slot: u8,
+    pub id_length: u8,
+    pub id_offset: u32,
+    pub bulk_start: u32,
+    pub bulk_length: u32,
+    pub id: [u8; 16],
+}
+
+/// `struct sgub_pool`
+#[repr(C)]
+pub struct Pool {
+    pub number: u32,
+    pub place: u64,
+    pub kind: u8,
+    pub offset: u64,
+    pub size: u64,
+}
+
+/// `struct sgub_pool_entry`
+#[repr(C)]
+pub struct PoolEntry {
+    pub kind: u8,
+    pub size: u32,
+    pub offset: u32,
+}
+
+// A function is safe to call with the pointer and the length of a slice: by its proof the library reads within them,
+// writes nothing and keeps no pointer. The pointer of an empty slice is not null, as the header asks.
+unsafe extern "C" {
+    fn sgub_check(file: *const u8, length: usize) -> Verdict;
+    fn sgub_card(file: *const u8, length: usize, index: usize) -> Card;
+    fn sgub_pool(file: *const u8, length: usize, id: u16) -> Pool;
+    fn sgub_pool_entry(file: *const u8, length: usize, directory_offset: u32, id: u16)
+    -> PoolEntry;
+}
+
+pub fn check(file: &[u8]) -> Verdict {
+    // SAFETY: pointer and length of one slice.
+    unsafe { sgub_check(file.as_ptr(), file.len()) }
+}
+
+pub fn card(file: &[u8], index: usize) -> Card {
+    // SAFETY: pointer and length of one slice.
+    unsafe { sgub_card(file.as_ptr(), file.len(), index) }
+}
+
+pub fn pool(file: &[u8], id: u16) -> Pool {
+    // SAFETY: pointer and length of one slice.
+    unsafe { sgub_pool(file.as_ptr(), file.len(), id) }
+}
+
+pub fn pool_entry(file: &[u8], directory_offset: u32, id: u16) -> PoolEntry {
+    // SAFETY: pointer and length of one slice.
+    unsafe { sgub_pool_entry(file.as_ptr(), file.len(), directory_offset, id) }
+}
+
+#[cfg(test)]
+mod header;

@@ -1,0 +1,169 @@
+//! Holds the declarations of this module against `include/sgub.h`, by a C compiler.
+
+use super::{Card, Pool, PoolEntry, Verdict};
+use std::mem::offset_of;
+use std::path::{Path, PathBuf};
+use std::process::Command;
+use std::{env, fs};
+
+/// A struct of the header: its size, and the name, offset and size of each field.
+struct Layout {
+    name: &'static str,
+    size: usize,
+    fields: Vec<(&'static str, usize, usize)>,
+}
+
+macro_rules! layout {
+    ($name:literal, $type:ident { $($field:ident),* $(,)? }) => {
+        Layout {
+            name: $name,
+            size: size_of::<$type>(),
+            fields: vec![$((
+                stringify!($field),
+                offset_of!($type, $field),
+                size_of_field(|value: &$type| &value.$field),
+            )),*],
+        }
+    };
+}
+
+fn size_of_field<S, F>(_: fn(&S) -> &F) -> usize {
+    size_of::<F>()
+}
+
+fn layouts() -> [Layout; 4] {
+    [
+        layout!(
+            "sgub_verdict",
+            Verdict {
+                number,
+                place,
+                version,
+                repeats,
+                uses_si22,
+                card_count,
+                frame_period,
+                frame_count,
+                pool_count,
+                initial_count,
+                directory_offset,
+                initial_start,
+                frame_start,
+                total_size,
+            }
+        ),
+        layout!(
+            "sgub_card",
+            Card {
+                slot,
+                id_length,
+                id_offset,
+                bulk_start,
+                bulk_length,
+                id,
+            }
+        ),
+        layout!(
+            "sgub_pool",
+            Pool {
+                number,
+                place,
+                kind,
+                offset,
+                size,
+            }
+        ),
+        layout!("sgub_pool_entry", PoolEntry { kind, size, offset }),
+    ]
+}
+
+/// A C program that the compiler takes only if the header has these layouts and functions.
+fn program() -> String {
+    let mut text = String::from(HEAD);
+    for layout in layouts() {
+        let name = layout.name;
+        text += &format!("HAS(sizeof(struct {name}) == {});\n", layout.size);
+        for (field, offset, size) in layout.fields {
+            text += &format!("HAS(offsetof(struct {name}, {field}) == {offset});\n");
+            text += &format!("HAS(sizeof(((struct {name} *)0)->{field}) == {size});\n");
+        }
+    }
+    text + FUNCTIONS + MAIN
+}
+
+const HEAD: &str = "\
+#include \"sgub.h\"
+#define HAS(what) _Static_assert(what, #what)
+";
+
+/// The functions with the types that Rust gives them: C refuses a second declaration that is not the same.
+const FUNCTIONS: &str = "
+struct sgub_verdict sgub_check(const unsigned char *, unsigned long);
+struct sgub_card sgub_card(const unsigned char *, unsigned long, unsigned long);
+struct sgub_pool sgub_pool(const unsigned char *, unsigned long, unsigned short);
+struct sgub_pool_entry sgub_pool_entry(
+    const unsigned char *, unsigned long, unsigned int, unsigned short);
+";
+
+/// P3 of the format sheet, and P3 with another version.
+const MAIN: &str = "
+int main(void) {
+    uint8_t file[22] = {0x53, 0x47, 0x55, 0x42, 1, 16, 0, 0, 0, 0, 0, 1, 0, 0, 0, 0, 0, 0, 0, 22};
+    struct sgub_verdict verdict = sgub_check(file, sizeof file);
+    if (verdict.number != 0 || verdict.version != 1 || verdict.total_size != 22)
+        return 1;
+    file[4] = 5;
+    verdict = sgub_check(file, sizeof file);
+    if (verdict.number != 3 || verdict.place != 0 || verdict.version != 0)
+        return 2;
+    struct sgub_pool pool = sgub_pool(file, sizeof file, 0);
+    return pool.number == 3 && pool.kind == 0 && pool.size == 0 ? 0 : 3;
+}
+";
+
+/// Compiles a C program and links it with the library; `None` where there is no C compiler.
+fn compile(name: &str, text: &str) -> Option<Result<PathBuf, String>> {
+    let directory = Path::new(env!("OUT_DIR"));
+    let (source, program) = (directory.join(format!("{name}.c")), directory.join(name));
+    fs::write(&source, text).expect("OUT_DIR can be written");
+    let compiler = env::var_os("CC").unwrap_or_else(|| "cc".into());
+    let include = Path::new(env!("CARGO_MANIFEST_DIR")).join("../../include");
+    let output = Command::new(compiler)
+        .args(["-std=c11", "-Wall", "-Werror", "-I"])
+        .args([&include, &source, Path::new(env!("SGUB_ARCHIVE"))])
+        .arg("-o")
+        .arg(&program)
+        .output();
+    match output {
+        Ok(output) if output.status.success() => Some(Ok(program)),
+        Ok(output) => Some(Err(String::from_utf8_lossy(&output.stderr).into_owned())),
+        Err(error) => {
+            eprintln!("skipped: there is no C compiler ({error})");
+            None
+        }
+    }
+}
+
+#[test]
+fn the_header_has_these_declarations_and_c_can_call_the_library() {
+    let Some(compiled) = compile("same", &program()) else {
+        return;
+    };
+    let program = compiled.unwrap_or_else(|errors| panic!("{errors}"));
+    assert_eq!(Command::new(program).status().unwrap().code(), Some(0));
+}
+
+/// The comparison can fail: an offset off by one is refused, and so is a function with another parameter.
+#[test]
+fn other_declarations_are_refused() {
+    for (name, old, new) in [
+        ("offset", "number) == 0)", "number) == 1)"),
+        ("parameter", "unsigned short)", "unsigned int)"),
+    ] {
+        let wrong = program().replacen(old, new, 1);
+        assert_ne!(wrong, program());
+        if let Some(compiled) = compile(name, &wrong) {
+            assert!(compiled.is_err(), "{name}");
+        }
+    }
+}

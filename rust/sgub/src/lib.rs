@@ -1,0 +1,174 @@
+//! The proved SGUB library for Rust: the verdict on a stream file, its cards and its pools.
+//!
+//! The library is `crates/sgub` of this repository, and its contracts say what each function answers. This package only
+//! declares its C functions again and makes them safe to call; it decides nothing about a file. Every function takes any
+//! bytes.
+#![deny(unsafe_code)]
+#![warn(missing_docs)]
+
+#[allow(unsafe_code)]
+mod ffi;
+
+/// The verdict on a file.
+#[derive(Clone, Copy, Debug, PartialEq, Eq)]
+pub enum Verdict {
+    /// No refusal applies.
+    Accepted(Header),
+    /// The first refusal that applies.
+    Refused(Refusal),
+}
+
+/// Why a file is refused, as the format sheet's list has it.
+#[derive(Clone, Copy, Debug, PartialEq, Eq)]
+pub struct Refusal {
+    /// The number of the refusal, 1 to 20.
+    pub number: u32,
+    /// The place that the sheet gives for this number; at most the file's length.
+    pub place: usize,
+}
+
+/// What the header of an accepted file says, and whether its operations use target 11.
+#[derive(Clone, Copy, Debug, PartialEq, Eq)]
+pub struct Header {
+    /// Format version, 1 to 4.
+    pub version: u8,
+    /// Whether frame 1 follows the last frame.
+    pub repeats: bool,
+    /// Whether some operation has target 11.
+    pub uses_si22: bool,
+    /// Cards; 0 below version 4.
+    pub card_count: u8,
+    /// Frame period; 0 below version 4.
+    pub frame_period: u32,
+    /// Frames.
+    pub frame_count: u32,
+    /// Pools; 0 in version 1.
+    pub pool_count: u32,
+    /// Records or operations of the opening.
+    pub initial_count: u32,
+    /// Where the pool directory starts; 20 in version 1, which has none.
+    pub directory_offset: u32,
+    /// Where the opening starts.
+    pub initial_start: u32,
+    /// Where the frames start.
+    pub frame_start: u32,
+    /// The file's length.
+    pub total_size: u32,
+}
+
+/// A card that a file of version 4 asks for.
+#[derive(Clone, Copy, Debug, PartialEq, Eq)]
+pub struct Card {
+    /// Slot, 0 to 7.
+    pub slot: u8,
+    /// Bytes of the name that count, 1 to 16.
+    pub id_length: u8,
+    /// Where the card shows its name.
+    pub id_offset: u32,
+    /// Where the range starts that FILL and COPY may write.
+    pub bulk_start: u32,
+    /// The length of that range; 0 for none.
+    pub bulk_length: u32,
+    /// The name, 0 behind its length.
+    pub id: [u8; 16],
+}
+
+impl Card {
+    /// The name.
+    pub fn name(&self) -> &[u8] {
+        &self.id[..usize::from(self.id_length)]
+    }
+}
+
+/// A pool of a file.
+#[derive(Clone, Copy, Debug, PartialEq, Eq)]
+pub struct Pool<'a> {
+    /// 1 wave, 2 PCM, 3 card.
+    pub kind: u8,
+    /// The part of the file that is its payload.
+    pub payload: &'a [u8],
+}
+
+/// An entry of the pool directory.
+#[derive(Clone, Copy, Debug, PartialEq, Eq)]
+pub struct PoolEntry {
+    /// 1 wave, 2 PCM, 3 card.
+    pub kind: u8,
+    /// Bytes of payload.
+    pub size: u32,
+    /// Where the payload starts.
+    pub offset: u32,
+}
+
+/// The verdict on a file.
+pub fn check(file: &[u8]) -> Verdict {
+    let verdict = ffi::check(file);
+    if let Some(refusal) = refusal(verdict.number, verdict.place) {
+        return Verdict::Refused(refusal);
+    }
+    Verdict::Accepted(Header {
+        version: verdict.version,
+        repeats: verdict.repeats,
+        uses_si22: verdict.uses_si22,
+        card_count: verdict.card_count,
+        frame_period: verdict.frame_period,
+        frame_count: verdict.frame_count,
+        pool_count: verdict.pool_count,
+        initial_count: verdict.initial_count,
+        directory_offset: verdict.directory_offset,
+        initial_start: verdict.initial_start,
+        // At most the total size of an accepted file.
+        frame_start: verdict.frame_start as u32,
+        total_size: verdict.total_size,
+    })
+}
+
+/// The card of an accepted file by its index; none from the card count on, and none of a refused file.
+///
+/// The whole file is checked at each call.
+pub fn card(file: &[u8], index: usize) -> Option<Card> {
+    let card = ffi::card(file, index);
+    // The name of a card has at least one byte; the library answers 0 throughout where there is no card.
+    (card.id_length > 0).then_some(Card {
+        slot: card.slot,
+        id_length: card.id_length,
+        id_offset: card.id_offset,
+        bulk_start: card.bulk_start,
+        bulk_length: card.bulk_length,
+        id: card.id,
+    })
+}
+
+/// The pool of a file by its id; `None` where an accepted file has no such pool.
+///
+/// The whole file is checked at each call.
+pub fn pool(file: &[u8], id: u16) -> Result<Option<Pool<'_>>, Refusal> {
+    let pool = ffi::pool(file, id);
+    if let Some(refusal) = refusal(pool.number, pool.place) {
+        return Err(refusal);
+    }
+    Ok((pool.kind > 0).then(|| Pool {
+        kind: pool.kind,
+        payload: &file[pool.offset as usize..][..pool.size as usize],
+    }))
+}
+
+/// An entry of the pool directory as it stands, with nothing checked: for listing the pools of a file that [`check`]
+/// accepted, without checking it again for each.
+///
+/// A byte behind the file's end reads as 0.
+pub fn pool_entry(file: &[u8], directory_offset: u32, id: u16) -> PoolEntry {
+    let entry = ffi::pool_entry(file, directory_offset, id);
+    PoolEntry {
+        kind: entry.kind,
+        size: entry.size,
+        offset: entry.offset,
+    }
+}
+
+fn refusal(number: u32, place: u64) -> Option<Refusal> {
+    (number > 0).then_some(Refusal {
+        number,
+        place: place as usize,
+    })
+}
