@@ -3,7 +3,7 @@
 ghost use mathlib.Core.Path.{_≡_};
 ghost use Prim.Native.Nat.{_+_, _*_, _^_, _≤_, _<_};
 ghost use lib.ListN.{length};
-ghost use Rattle.format.specs.Bytes.{byte, be, bytesOf};
+ghost use Rattle.format.specs.Bytes.{byte, be, bytesOf, part};
 ghost use Rattle.big_endian.specs.Put.{put};
 
 // The byte at a place.
@@ -100,6 +100,14 @@ pub fn read_u32(file: &[u8], at: usize) -> u32
         return read_be(file, at, 4);
     }
     load_4(file, at)
+}
+
+// The 16 bytes from a place on, which are all there. A read in them needs no test of the file's end once it is compiled.
+pub fn window(file: &[u8], at: usize) -> &[u8]
+    requires { ⌜ at + 16 ≤ length (now file) ⌝ }
+    ensures { λ r. ⌜ now r ≡ part (now (file .entry)) at 16 ⌝ }
+{
+    &file[at..at + 16]
 }
 
 // The lowest one to four bytes of a number, stored where there is room for them. Each is the one before with one byte more; together

@@ -13,13 +13,6 @@ use Rattle.format.specs.Writes.{usesSi22}
 use Rattle.file_check.specs.declared.check.FileAnswer.{FileAnswer}
 use Rattle.file_check.specs.declared.check.FileAnswer.the-variants.{Accepted, Refused}
 use Rattle.file_check.specs.declared.check.FileCheck.{FileCheck}
-use Rattle.file_check.specs.declared.parts.PartsRead.{PartsRead}
-use Rattle.file_check.specs.declared.parts.PartsRead.the-variants as parts
-
--- whether an operation has target 11, or the refusal
-abbrev pub partsOf : PartsRead → Checked Bool
-partsOf (parts.Whole si22) = ok si22
-partsOf (parts.Refused r) = refusal r
 
 -- what is recorded of an accepted file
 pub record Recorded : Type 0 where

@@ -1,7 +1,5 @@
 // The whole file: the rules 1 to 20.
 use crate::layout::check_layout;
-use crate::parts::PartsRead;
-use crate::parts::check_parts;
 use format::CardRequirement;
 use format::CardTable;
 use format::Header;
@@ -9,6 +7,8 @@ use format::Refusal;
 use format::Verdict;
 use header::HeaderRead;
 use header::read_header;
+use parts::PartsRead;
+use parts::check_parts;
 use tables::parse_v4_cards;
 ghost use mathlib.Core.Path.{_≡_};
 ghost use Rattle.format.specs.Checked.{ok};

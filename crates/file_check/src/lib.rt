@@ -2,7 +2,6 @@
 mod check;
 mod layout;
 mod lookup;
-mod parts;
 
 pub use check::FileAnswer;
 pub use check::FileCheck;

@@ -6,8 +6,9 @@ use native.Mathlib.Nat.{add-zero, pow-suc, lt-of-lt-of-le, pow-le-pow-right}
 use native.Mathlib.Numerals.{add-one}
 use native.Mathlib.Omega.{arith}
 use lib.Dec.{lit<}
-use lib.ListN.{length, List·getD-eq-default}
-use Rattle.format.specs.Bytes.{byte, be}
+use lib.ListN.{length, drop, List·getD-eq-default}
+use lib.Seq.{getD-take, getD-drop}
+use Rattle.format.specs.Bytes.{byte, be, part}
 
 -- every element is a byte, as a slice's rule gives it
 abbrev pub AllBytes : List ℕ → Type 0
@@ -41,3 +42,14 @@ be-past (suc width) file place h = omega (arith, be-past width file place h, byt
 pub be-first : (file : List ℕ) (place : ℕ) → be 1 file place ≡ byte file place
 unfolding be
 be-first file place = rw add-zero (omega arith)
+
+-- a part of a file has its bytes, and so its numbers
+pub byte-part : (file : List ℕ) (at size i : ℕ) → i < size → byte (part file at size) i ≡ byte file (at + i)
+byte-part file at size i h = rw (getD-take size (drop at file) i 0 h, getD-drop)
+
+pub be-part : (width : ℕ) (file : List ℕ) (at size place : ℕ) → place + width ≤ size → be width (part file at size) place ≡ be width file (at + place)
+unfolding be
+be-part zero file at size place h = refl
+be-part (suc width) file at size place h =
+    let next : at + (place + width) ≡ at + place + width = omega arith in
+    rw (be-part width file at size place (omega arith), byte-part file at size (place + width) (omega arith), next)

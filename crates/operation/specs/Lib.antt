@@ -1,4 +1,3 @@
 pub mod Answer
 pub mod Rules
-pub mod Quick
 pub mod Walk

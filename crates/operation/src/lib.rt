@@ -2,11 +2,13 @@
 mod fields;
 mod item;
 mod lookup;
-mod quick;
 mod rules;
 mod walk;
 
+pub use fields::address_width;
+pub use fields::read_address;
 pub use item::OperationRead;
 pub use item::read_item;
+pub use lookup::find_target;
 pub use walk::Walked;
 pub use walk::check_operations;

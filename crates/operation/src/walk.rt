@@ -2,7 +2,6 @@
 use crate::item::OperationRead;
 use crate::item::read_item;
 use crate::item::target_number;
-use crate::quick::quick_run;
 use format::CardTable;
 use format::Header;
 use format::Operation;
@@ -62,19 +61,11 @@ pub fn check_operations(
 ) -> Walked
     ensures { λ r. ⌜ walkedOf r ≡ walked (settingOf (now (file .entry)) header cards) (now (file .entry)) limit count start ⌝ }
 {
-    let version = header.version;
     let mut at = start;
     let mut left = count;
     let mut seen = false;
     while 0 < left {
-        let run = quick_run(file, version, limit, left, at);
-        if run.left == 0 {
-            return Walked::End {
-                place: run.at,
-                si22: seen,
-            };
-        }
-        match step(file, header, cards, limit, run.at, seen) {
+        match step(file, header, cards, limit, at, seen) {
             Walked::End { place, si22 } => {
                 at = place;
                 seen = si22;
@@ -83,7 +74,7 @@ pub fn check_operations(
                 return Walked::Refused(refusal);
             }
         }
-        left = run.left - 1;
+        left -= 1;
     }
     Walked::End {
         place: at,

@@ -1,36 +1,22 @@
 -- `operation::walk::check_operations` meets its contract. Assumes nothing.
 use borrow.Author.Needs.{needs}
 use native.Mathlib.Omega.{arith}
-use mathlib.Core.Path.{_≡_, refl, ap}
+use mathlib.Core.Path.{_≡_, refl}
 use Rattle.format.specs.Operation.{settingOf}
-use Rattle.operation.specs.declared.quick.QuickRun.{QuickRun}
 use Rattle.operation.specs.Walk.{walked, walkedWith}
-use Rattle.operation.proofs.Quickly.{ran}
 use Rattle.operation.proofs.Steps.{walk-step, walk-end}
 use Rattle.operation.proofs.walk.check_operations.Statement.{statement}
 use Rattle.operation.proofs.walk.check_operations.Tie as tie
 
 abbrev Inv-loop : tie.InvT-loop
-Inv-loop file header cards limit count start version at₀ left₀ seen₀ at left seen =
+Inv-loop file header cards limit count start at₀ left₀ seen₀ at left seen =
     walked (settingOf file header cards) file limit count start ≡ walkedWith seen (settingOf file header cards) file limit left at
 
 abbrev μ-loop : tie.MeasureT-loop
-μ-loop file header cards limit count start version at₀ left₀ seen₀ at left seen = left
+μ-loop file header cards limit count start at₀ left₀ seen₀ at left seen = left
 
 loop-holds : tie.Need-loop-holds Inv-loop μ-loop
 loop-holds c = refl
-
-quick-run-requires : tie.Need-quick-run-requires Inv-loop μ-loop
-quick-run-requires c κs = search needs
-
-returns : tie.Need-returns Inv-loop μ-loop
-returns c =
-    let run = c .before .before in
-    let l = run .before .before in
-    let a = l .before .before .args in
-    let setting = settingOf (a .file .now) (a .header) (a .cards) in
-    let r = ran (l .loop .seen) setting (a .file .now) (a .limit) (l .loop .left) (l .loop .at) in
-    rw (l .loop .inv, r .decides, ← (run .quick-run .ensures), c .if1 .taken, walk-end (l .loop .seen) setting (a .file .now) (a .limit) (run .quick-run .result .at))
 
 step-requires : tie.Need-step-requires Inv-loop μ-loop
 step-requires c κs = search needs
@@ -41,40 +27,28 @@ enum-known-place c = search needs
 enum-known-refusal : tie.Need-enum-known-refusal Inv-loop μ-loop
 enum-known-refusal c = search needs
 
-returns-2 : tie.Need-returns-2 Inv-loop μ-loop
-returns-2 c =
+returns : tie.Need-returns Inv-loop μ-loop
+returns c =
     let step = c .before .before .before in
-    let run = step .before .before .before in
-    let l = run .before .before in
+    let l = step .before .before in
     let a = l .before .before .args in
-    let setting = settingOf (a .file .now) (a .header) (a .cards) in
-    let r = ran (l .loop .seen) setting (a .file .now) (a .limit) (l .loop .left) (l .loop .at) in
-    rw (l .loop .inv, r .decides, ← (run .quick-run .ensures), walk-step (l .loop .seen) setting (a .file .now) (a .limit) (run .quick-run .result .left) (run .quick-run .result .at) (omega arith), ← (step .step .ensures), c .before .refusal .given .1)
+    rw (l .loop .inv, walk-step (l .loop .seen) (settingOf (a .file .now) (a .header) (a .cards)) (a .file .now) (a .limit) (l .loop .left) (l .loop .at) (omega arith), ← (step .step .ensures), c .before .refusal .given .1)
 
 sub-left : tie.Need-sub-left Inv-loop μ-loop
 sub-left c = search needs
 
 loop-less : tie.Need-loop-less Inv-loop μ-loop
-loop-less c =
-    let run = c .before .before .before .before .before .before .before in
-    let l = run .before .before in
-    let a = l .before .before .args in
-    let setting = settingOf (a .file .now) (a .header) (a .cards) in
-    let r = ran (l .loop .seen) setting (a .file .now) (a .limit) (l .loop .left) (l .loop .at) in
-    omega (arith, r .fewer, ap (λ (q : QuickRun). q .left) (run .quick-run .ensures))
+loop-less c = search needs
 
 loop-again : tie.Need-loop-again Inv-loop μ-loop
 loop-again c =
-    let step = c .before .before .before .before in
-    let run = step .before .before .before in
-    let l = run .before .before in
+    let step = c .before .before .before in
+    let l = step .before .before in
     let a = l .before .before .args in
-    let setting = settingOf (a .file .now) (a .header) (a .cards) in
-    let r = ran (l .loop .seen) setting (a .file .now) (a .limit) (l .loop .left) (l .loop .at) in
-    rw (l .loop .inv, r .decides, ← (run .quick-run .ensures), walk-step (l .loop .seen) setting (a .file .now) (a .limit) (run .quick-run .result .left) (run .quick-run .result .at) (omega arith), ← (step .step .ensures), c .before .before .place .given .1)
+    rw (l .loop .inv, walk-step (l .loop .seen) (settingOf (a .file .now) (a .header) (a .cards)) (a .file .now) (a .limit) (l .loop .left) (l .loop .at) (omega arith), ← (step .step .ensures), c .before .place .given .1)
 
-returns-3 : tie.Need-returns-3 Inv-loop μ-loop
-returns-3 c =
+returns-2 : tie.Need-returns-2 Inv-loop μ-loop
+returns-2 c =
     let l = c .before in
     let a = l .before .before .args in
     let none : l .loop .left ≡ 0 = omega arith in
@@ -87,13 +61,11 @@ check-operations-spec =
     Inv-loop
     μ-loop
     loop-holds
-    quick-run-requires
-    returns
     step-requires
     enum-known-place
     enum-known-refusal
-    returns-2
+    returns
     sub-left
     loop-less
     loop-again
-    returns-3)
+    returns-2)

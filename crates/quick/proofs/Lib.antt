@@ -1,0 +1,5 @@
+pub mod Tabled
+pub mod Runs
+pub mod Passed
+pub mod Items
+pub mod Ran
