@@ -1,1 +1,2 @@
 pub mod FrameWalk
+pub mod Empty

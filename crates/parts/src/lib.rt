@@ -21,7 +21,7 @@ ghost use Rattle.format.specs.Stream.{openingLimit};
 ghost use Rattle.operation.specs.Answer.{walkedOf};
 ghost use Rattle.quick.specs.Limits.{LimitsOf};
 ghost use Rattle.quick.specs.Run.{quickRun};
-ghost use Rattle.parts.specs.Walk.{operationsSaid, framesSaid, framesChecked, partsFrom};
+ghost use Rattle.parts.specs.Walk.{operationsSaid, framesSaid, framesChecked, partsFrom, skipped};
 ghost use Rattle.parts.specs.Answer.{partsOf};
 
 // Whether an operation of the file has target 11; or a refusal.
@@ -62,7 +62,32 @@ fn count_cut_off(file: &[u8], at: usize) -> bool
     false
 }
 
-// The items of a frame that are passed quickly. Many frames have none: they cost no call.
+// Where a frame starts, and how many frames are left there.
+pub struct FramesLeft {
+    pub at: usize,
+    pub left: u32,
+}
+
+// Passes the empty frames in front of so many, but for the last.
+fn skip_empty(file: &[u8], count: u32, start: usize) -> FramesLeft
+    ensures { λ r. ⌜ r ≡ skipped (now (file .entry)) count start ⌝ }
+{
+    let mut at = start;
+    let mut left = count;
+    while 1 < left {
+        if count_cut_off(file, at) {
+            return FramesLeft { at, left };
+        }
+        if read_u16(file, at) != 0 {
+            return FramesLeft { at, left };
+        }
+        at += 2;
+        left -= 1;
+    }
+    FramesLeft { at, left }
+}
+
+// The items of a frame that are passed quickly. A frame that has none costs no call.
 fn frame_run(
     file: &[u8],
     version: u8,
@@ -121,13 +146,14 @@ fn check_frames(
     let mut left = header.frame_count;
     let mut seen = si22;
     while 0 < left {
-        if count_cut_off(file, at) {
+        let next = skip_empty(file, left, at);
+        if count_cut_off(file, next.at) {
             return Walked::Refused(Refusal {
                 rule: Rule::CutOff,
-                place: at,
+                place: next.at,
             });
         }
-        let count = read_u16(file, at) as u32;
+        let count = read_u16(file, next.at) as u32;
         let run = frame_run(
             file,
             version,
@@ -138,7 +164,7 @@ fn check_frames(
             ends,
             kinds,
             count,
-            at + 2,
+            next.at + 2,
         );
         seen = either(seen, run.si22);
         if run.left == 0 {
@@ -154,7 +180,7 @@ fn check_frames(
                 }
             }
         }
-        left -= 1;
+        left = next.left - 1;
     }
     Walked::End {
         place: at,
