@@ -1,0 +1,5 @@
+pub mod Place
+pub mod Closing
+pub mod Operation
+pub mod Turn
+pub mod Begin
