@@ -1,2 +1,5 @@
 pub mod Storing
 pub mod Address
+pub mod Taken
+pub mod Parts
+pub mod PartStored
