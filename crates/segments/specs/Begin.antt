@@ -28,7 +28,7 @@ closingFrom state done total =
 -- so many operations of a frame from a cursor on
 abbrev pub framePlace : (left cursor done total : ℕ) → Place
 framePlace left cursor done total =
-    record { closing = false; left = left; opening = 0; after = 0; cursor = cursor; done = done; total = total; room = total }
+    record { closing = false; left = left; opening = 0; after = cursor; cursor = cursor; done = done; total = total; room = total }
 
 -- the frame whose count stands at a cursor
 unfoldable pub frameAt : List ℕ → (cursor total : ℕ) → Place

@@ -87,7 +87,7 @@ fn frame_place(left: usize, cursor: usize, done: u32, total: usize) -> Place
         closing: false,
         left: left,
         opening: 0,
-        after: 0,
+        after: cursor,
         cursor: cursor,
         done: done,
         total: total,

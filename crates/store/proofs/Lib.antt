@@ -3,3 +3,4 @@ pub mod Address
 pub mod Taken
 pub mod Parts
 pub mod PartStored
+pub mod Frames

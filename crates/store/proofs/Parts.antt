@@ -51,6 +51,10 @@ gathered-full state file limit (suc left) p g e = (ap (λ (x : Gathered). x .rec
 
 -- ONE OPERATION
 
+-- the writes of an operation that are left
+abbrev pub restOf : StreamPlayer → List ℕ → Item → (done : ℕ) → List WriteRecord
+restOf state file item done = drop done (writesWith (bytesAt file (state .header .«directory_offset»)) (item .operation))
+
 -- what `gathered` says of the next operation
 pub record Step (state : StreamPlayer) (file : List ℕ) (limit left room : ℕ) (p : Progress) (g : Gathered) : Type 0 where
   pub item : Item
@@ -62,7 +66,7 @@ pub record Step (state : StreamPlayer) (file : List ℕ) (limit left room : ℕ)
   pub next-index : next .«operation_index» ≡ p .«operation_index» + 1
   pub next-count : next .«operation_count» ≡ p .«operation_count»
   pub stop : Progress
-  pub is : cond (ltb room (length (drop (p .«write_index») (writesWith (bytesAt file (state .header .«directory_offset»)) (item .operation))))) (ok (record { records = take room (drop (p .«write_index») (writesWith (bytesAt file (state .header .«directory_offset»)) (item .operation))); room = 0; progress = stop })) (gathered state file limit left (room - length (drop (p .«write_index») (writesWith (bytesAt file (state .header .«directory_offset»)) (item .operation)))) next >>= λ (more : Gathered). ok (record { records = drop (p .«write_index») (writesWith (bytesAt file (state .header .«directory_offset»)) (item .operation)) ++ more .records; room = more .room; progress = more .progress })) ≡ ok g
+  pub is : cond (ltb room (length (restOf state file item (p .«write_index»)))) (ok (record { records = take room (restOf state file item (p .«write_index»)); room = 0; progress = stop })) (gathered state file limit left (room - length (restOf state file item (p .«write_index»))) next >>= λ (more : Gathered). ok (record { records = restOf state file item (p .«write_index») ++ more .records; room = more .room; progress = more .progress })) ≡ ok g
 
 pub step-of : (state : StreamPlayer) (file : List ℕ) (limit left others : ℕ) (p : Progress) (g : Gathered) → gathered state file limit (suc left) (suc others) p ≡ ok g → Step state file limit left (suc others) p g
 unfolding gathered
