@@ -4,3 +4,4 @@ pub mod Taken
 pub mod Parts
 pub mod PartStored
 pub mod Frames
+pub mod Closing
