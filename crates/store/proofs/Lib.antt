@@ -5,3 +5,4 @@ pub mod Parts
 pub mod PartStored
 pub mod Frames
 pub mod Closing
+pub mod Call
