@@ -1,0 +1,3 @@
+pub mod Pacing
+pub mod Telling
+pub mod Begins

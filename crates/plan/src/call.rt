@@ -1,0 +1,66 @@
+// The plan of a call, by the part that is playing.
+use crate::answer::CallPlan;
+use crate::answer::refused_plan;
+use crate::belongs::foreign;
+use crate::closing::plan_closing;
+use crate::frame::begin_frame;
+use crate::frame::plan_frame;
+use crate::opening::plan_opening;
+use crate::progress::opening_begun;
+use format::Part;
+use format::Progress;
+use format::StreamPlayer;
+ghost use mathlib.Core.Path.{_≡_};
+ghost use Rattle.format.specs.Pace.{plan, planned};
+ghost use Rattle.plan.specs.Told.{planTold, planBetween};
+
+// Between vsyncs the next one begins: the opening, the next frame, frame 1 again, or the closing writes.
+fn plan_between(file: &[u8], state: StreamPlayer, room: usize, progress: Progress) -> CallPlan
+    ensures { λ r. ⌜ r ≡ planTold state (planBetween state (now (file .entry)) room progress) ⌝ }
+{
+    let header = state.header;
+    if !progress.initialized {
+        let begun = opening_begun(header, progress);
+        return plan_opening(file, state, room, begun);
+    }
+    let frame = progress.frame_index;
+    if frame < header.frame_count {
+        return begin_frame(file, state, room, progress.cursor, frame, progress);
+    }
+    if header.repeat {
+        return begin_frame(file, state, room, header.frame_start, 0, progress);
+    }
+    plan_closing(state, room, progress.closing_at(0, false))
+}
+
+// The part that is under way goes on.
+fn plan_part(file: &[u8], state: StreamPlayer, room: usize, progress: Progress) -> CallPlan
+    ensures { λ r. ⌜ r ≡ planTold state (plan state (now (file .entry)) room progress (progress .part)) ⌝ }
+{
+    let part = progress.part;
+    match part {
+        Part::Between => plan_between(file, state, room, progress),
+        Part::Opening => plan_opening(file, state, room, progress),
+        Part::Frame => plan_frame(file, state, room, progress),
+        Part::Closing => plan_closing(state, room, progress),
+    }
+}
+
+// One call, on any state and any bytes, with room for so many records. A finished state reads no file.
+pub fn plan_call(state: StreamPlayer, file: &[u8], room: usize) -> CallPlan
+    ensures { λ r. ⌜ r ≡ planTold state (planned state (now (file .entry)) room) ⌝ }
+{
+    let progress = state.progress;
+    if progress.finished {
+        return CallPlan {
+            refused: false,
+            count: 0,
+            complete: true,
+            next: state,
+        };
+    }
+    if foreign(file, state) {
+        return refused_plan(state);
+    }
+    plan_part(file, state, room, progress)
+}
