@@ -1,3 +1,2 @@
-pub mod Pacing
 pub mod Telling
 pub mod Begins

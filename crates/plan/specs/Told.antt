@@ -1,19 +1,19 @@
 -- What the answers of this crate say.
-use Prim.Native.Nat.{ℕ, _+_, _*_, _/_}
-use mathlib.Core.Bool.{true, false, cond}
+use Prim.Native.Nat.{ℕ, _+_, _-_, min}
+use mathlib.Core.Bool.{Bool, true, false, cond}
 use mathlib.Core.List.{List}
-use lib.Dec.{eqb}
-use lib.ListN.{set}
-use Rattle.format.specs.declared.operation.Operation.{Operation}
+use lib.Dec.{leb, ltb}
 use Rattle.format.specs.declared.player.Part.the-variants.{Between}
 use Rattle.format.specs.declared.player.Progress.{Progress}
 use Rattle.format.specs.declared.player.StreamPlayer.{StreamPlayer}
-use Rattle.format.specs.declared.player.WaveSource.{WaveSource}
 use Rattle.format.specs.Checked.{Checked, ok, refused, _>>=_}
 use Rattle.format.specs.Pace.{Plan, planFrame, plan}
-use Rattle.format.specs.Player.{wavesBy, frameBegun}
-use Rattle.plan.specs.declared.answer.CallPlan.{CallPlan}
-use Rattle.plan.specs.declared.pace.Paced.{Paced}
+use Rattle.format.specs.Player.{frameBegun, closingAt}
+use Rattle.format.specs.State.{moved}
+use Rattle.plan.specs.declared.call.CallPlan.{CallPlan}
+use Rattle.plan.specs.declared.taken.Taken.{Taken}
+
+-- THE ANSWER OF A CALL
 
 -- refusal 25: no write is taken, and the state stays
 abbrev pub noPlan : StreamPlayer → CallPlan
@@ -24,14 +24,27 @@ abbrev pub planTold : StreamPlayer → Checked Plan → CallPlan
 planTold state (ok plan) = record { refused = false; count = plan .count; complete = plan .complete; next = plan .next }
 planTold state (refused number place) = noPlan state
 
--- a plan behind so many writes
-abbrev pub behind : (count : ℕ) → CallPlan → CallPlan
-behind count more =
-    cond (more .refused) more (record { refused = false; count = count + more .count; complete = more .complete; next = more .next })
+-- WHAT IS TAKEN OF A PART
 
--- the room that is left and the progress, or refusal 25
-abbrev pub paceOf : Paced → Checked (ℕ × Progress)
-paceOf r = cond (r .refused) (refused 25 0) (ok (r .room, r .progress))
+abbrev pub nothing : Progress → Taken
+nothing p = record { refused = true; count = 0; complete = false; progress = p }
+
+-- the answer of a state to what was taken
+abbrev pub takenTold : StreamPlayer → Taken → CallPlan
+takenTold state t =
+    cond (t .refused) (noPlan state) (record { refused = false; count = t .count; complete = t .complete; next = moved state (t .progress) })
+
+-- behind so many writes
+abbrev pub behind : (count : ℕ) → Taken → Taken
+behind count t =
+    cond (t .refused) t (record { refused = false; count = count + t .count; complete = t .complete; progress = t .progress })
+
+-- of the closing writes
+abbrev pub closingTaken : (si22 : Bool) → (room : ℕ) → Progress → Taken
+closingTaken si22 room p =
+    cond (ltb (cond si22 33 32) (p .«write_index»)) (nothing p) (record { refused = false; count = min room (cond si22 33 32 - p .«write_index»); complete = leb (cond si22 33 32 - p .«write_index») room; progress = closingAt (p .«write_index» + min room (cond si22 33 32 - p .«write_index»)) (leb (cond si22 33 32 - p .«write_index») room) p })
+
+-- PLANS
 
 -- the plan of a call that begins a vsync
 abbrev pub planBetween : StreamPlayer → List ℕ → (room : ℕ) → Progress → Checked Plan
@@ -40,11 +53,3 @@ planBetween state file room p = plan state file room p Between
 -- the plan of a call that begins a frame
 abbrev pub planBegun : StreamPlayer → List ℕ → (room cursor frame : ℕ) → Progress → Checked Plan
 planBegun state file room cursor frame p = frameBegun file cursor frame p >>= planFrame state file room
-
--- the wave sources with a pool at the place of a target and an address
-abbrev pub wavesWith : List WaveSource → (target address id : ℕ) → List WaveSource
-wavesWith waves target address id = set waves (target * 8 + address / 256) (record { copied = true; pool = id })
-
--- the wave sources once writes of an operation are taken, of which so many were taken before
-abbrev pub wavesNow : List ℕ → (directory : ℕ) → Operation → (writes : ℕ) → List WaveSource → List WaveSource
-wavesNow file directory operation writes waves = cond (eqb writes 0) (wavesBy file directory operation waves) waves

@@ -1,9 +1,8 @@
 // Whether a state belongs to a file.
-use format::Header;
 use format::Progress;
 use format::StreamPlayer;
 ghost use mathlib.Core.Path.{_≡_};
-ghost use mathlib.Core.Bool.{not, _||_};
+ghost use mathlib.Core.Bool.{_||_};
 ghost use lib.Dec.{eqb, ltb};
 ghost use Rattle.format.specs.Checked.{refuse};
 ghost use Rattle.format.specs.Player.{belongs};
@@ -22,46 +21,55 @@ fn recorded_wrong(version: u8, cards: usize) -> bool
 }
 
 // Whether a place passes the file's end.
-fn place_past(length: usize, header: Header, cursor: usize) -> bool
-    ensures { λ r. ⌜ r ≡ (ltb length cursor || ltb length (header .«initial_start») || ltb length (header .«frame_start») || ltb length (header .«directory_offset»)) ⌝ }
+fn place_past(length: usize, cursor: usize, opening: u32, frames: usize, directory: u32) -> bool
+    ensures { λ r. ⌜ r ≡ (ltb length cursor || ltb length opening || ltb length frames || ltb length directory) ⌝ }
 {
     if length < cursor {
         return true;
     }
-    if length < header.initial_start as usize {
+    if length < opening as usize {
         return true;
     }
-    if length < header.frame_start {
+    if length < frames {
         return true;
     }
-    length < header.directory_offset as usize
+    length < directory as usize
 }
 
 // Whether a counter passes its count.
-fn counter_past(frames: u32, progress: Progress) -> bool
-    ensures { λ r. ⌜ r ≡ (ltb frames (progress .«frame_index») || ltb (progress .«operation_count») (progress .«operation_index»)) ⌝ }
+fn counter_past(frames: u32, frame: u32, operations: u32, operation: u32) -> bool
+    ensures { λ r. ⌜ r ≡ (ltb frames frame || ltb operations operation) ⌝ }
 {
-    if frames < progress.frame_index {
+    if frames < frame {
         return true;
     }
-    progress.operation_count < progress.operation_index
+    operations < operation
 }
 
 // Whether a state belongs to another file than the lent one.
 pub fn foreign(file: &[u8], state: StreamPlayer) -> bool
     ensures { λ r. ⌜ refuse 25 0 r ≡ belongs state (now (file .entry)) ⌝ }
 {
-    let header = state.header;
-    let cards = state.cards;
-    let progress = state.progress;
-    if file.len() != header.total_size as usize {
+    let length = file.len();
+    if length != state.header.total_size as usize {
         return true;
     }
-    if recorded_wrong(header.version, cards.count) {
+    if recorded_wrong(state.header.version, state.cards.count) {
         return true;
     }
-    if place_past(file.len(), header, progress.cursor) {
+    if place_past(
+        length,
+        state.progress.cursor,
+        state.header.initial_start,
+        state.header.frame_start,
+        state.header.directory_offset,
+    ) {
         return true;
     }
-    counter_past(header.frame_count, progress)
+    counter_past(
+        state.header.frame_count,
+        state.progress.frame_index,
+        state.progress.operation_count,
+        state.progress.operation_index,
+    )
 }

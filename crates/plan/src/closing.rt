@@ -1,12 +1,10 @@
-// The plan of a call in the closing writes.
-use crate::answer::CallPlan;
-use crate::answer::refused_plan;
+// What a call takes of the closing writes.
+use crate::taken::Taken;
+use crate::taken::refused_part;
 use format::Progress;
-use format::StreamPlayer;
 ghost use mathlib.Core.Path.{_≡_};
 ghost use mathlib.Core.Bool.{cond};
-ghost use Rattle.format.specs.Pace.{planClosing};
-ghost use Rattle.plan.specs.Told.{planTold};
+ghost use Rattle.plan.specs.Told.{closingTaken};
 
 // How many closing writes there are: one more with target 11.
 fn closing_count(si22: bool) -> u32
@@ -18,29 +16,29 @@ fn closing_count(si22: bool) -> u32
     32
 }
 
-pub fn plan_closing(state: StreamPlayer, room: usize, progress: Progress) -> CallPlan
-    ensures { λ r. ⌜ r ≡ planTold state (planClosing state room progress) ⌝ }
+pub fn plan_closing(si22: bool, room: usize, progress: Progress) -> Taken
+    ensures { λ r. ⌜ r ≡ closingTaken si22 room progress ⌝ }
 {
-    let total = closing_count(state.uses_si22);
+    let total = closing_count(si22);
     let made = progress.write_index;
     if total < made {
-        return refused_plan(state);
+        return refused_part(progress);
     }
     let rest = total - made;
     if rest as usize <= room {
-        let next = state.moved(progress.closing_at(made + rest, true));
-        return CallPlan {
+        let after = progress.closing_at(total, true);
+        return Taken {
             refused: false,
             count: rest as usize,
             complete: true,
-            next: next,
+            progress: after,
         };
     }
-    let next = state.moved(progress.closing_at(made + room as u32, false));
-    CallPlan {
+    let after = progress.closing_at(made + room as u32, false);
+    Taken {
         refused: false,
         count: room,
         complete: false,
-        next: next,
+        progress: after,
     }
 }

@@ -1,41 +1,40 @@
-// The plan of a call in a frame.
-use crate::answer::CallPlan;
-use crate::answer::refused_plan;
-use crate::pace::pace;
+// What a call takes of a frame.
 use crate::progress::frame_ended;
 use crate::progress::frame_start;
-use crate::progress::operations_left;
+use crate::taken::Taken;
+use crate::taken::refused_part;
 use format::Progress;
 use format::StreamPlayer;
+use pace::operations_left;
+use pace::pace;
 ghost use mathlib.Core.Path.{_≡_};
 ghost use Prim.Native.Nat.{_+_, _^_, _≤_, _<_};
 ghost use Rattle.format.specs.Pace.{planFrame};
-ghost use Rattle.plan.specs.Told.{planTold, planBegun};
+ghost use Rattle.plan.specs.Told.{planTold, takenTold, planBegun};
 
-pub fn plan_frame(file: &[u8], state: StreamPlayer, room: usize, progress: Progress) -> CallPlan
-    ensures { λ r. ⌜ (r ≡ planTold state (planFrame state (now (file .entry)) room progress)) × (r .count ≤ room) ⌝ }
+pub fn plan_frame(file: &[u8], state: StreamPlayer, room: usize, progress: Progress) -> Taken
+    ensures { λ r. ⌜ (takenTold state r ≡ planTold state (planFrame state (now (file .entry)) room progress)) × (r .count ≤ room) ⌝ }
 {
     let paced = pace(file, state, file.len(), room, progress);
     if paced.refused {
-        return refused_plan(state);
+        return refused_part(progress);
     }
     let after = paced.progress;
     let count = room - paced.room;
     if operations_left(after) == 0 {
-        let next = state.moved(frame_ended(after));
-        return CallPlan {
+        let ended = frame_ended(after);
+        return Taken {
             refused: false,
             count: count,
             complete: true,
-            next: next,
+            progress: ended,
         };
     }
-    let next = state.moved(after);
-    CallPlan {
+    Taken {
         refused: false,
         count: count,
         complete: false,
-        next: next,
+        progress: after,
     }
 }
 
@@ -47,15 +46,15 @@ pub fn begin_frame(
     cursor: usize,
     frame: u32,
     progress: Progress,
-) -> CallPlan
+) -> Taken
     requires { ⌜ frame + 1 < 2 ^ 32 ⌝ }
-    ensures { λ r. ⌜ (r ≡ planTold state (planBegun state (now (file .entry)) room cursor frame progress)) × (r .count ≤ room) ⌝ }
+    ensures { λ r. ⌜ (takenTold state r ≡ planTold state (planBegun state (now (file .entry)) room cursor frame progress)) × (r .count ≤ room) ⌝ }
 {
     if file.len() < 2 {
-        return refused_plan(state);
+        return refused_part(progress);
     }
     if file.len() - 2 < cursor {
-        return refused_plan(state);
+        return refused_part(progress);
     }
     let begun = frame_start(file, cursor, frame, progress);
     plan_frame(file, state, room, begun)

@@ -1,14 +1,12 @@
 // The first pass of a vsync call: for any state and any bytes whether the call is refused (25), and else how many writes it
 // takes, whether the vsync is then complete, and the next state. It stores no write.
-mod answer;
 mod belongs;
 mod call;
 mod closing;
 mod frame;
 mod opening;
-mod pace;
 mod progress;
-mod waves;
+mod taken;
 
-pub use answer::CallPlan;
+pub use call::CallPlan;
 pub use call::plan_call;

@@ -5,19 +5,7 @@ use format::Part;
 use format::Progress;
 ghost use mathlib.Core.Path.{_≡_};
 ghost use Prim.Native.Nat.{_+_, _^_, _<_};
-ghost use Rattle.format.specs.Player.{openingBegun, frameStart, frameEnded, operationsLeft};
-
-// How many operations of the part are not done.
-pub fn operations_left(progress: Progress) -> u32
-    ensures { λ r. ⌜ (r ≡ operationsLeft progress) × (progress .«operation_index» + r < 2 ^ 32) ⌝ }
-{
-    let count = progress.operation_count;
-    let done = progress.operation_index;
-    if count < done {
-        return 0;
-    }
-    count - done
-}
+ghost use Rattle.format.specs.Player.{openingBegun, frameStart, frameEnded};
 
 pub fn opening_begun(header: Header, progress: Progress) -> Progress
     ensures { λ r. ⌜ r ≡ openingBegun header progress ⌝ }

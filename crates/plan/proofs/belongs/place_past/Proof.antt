@@ -1,5 +1,4 @@
 -- `plan::belongs::place_past` meets its contract. Assumes nothing.
-use borrow.Author.Needs.{needs}
 use Rattle.format.proofs.Decided.{decided}
 use Rattle.plan.proofs.belongs.place_past.Statement.{statement}
 use Rattle.plan.proofs.belongs.place_past.Tie as tie
@@ -7,17 +6,11 @@ use Rattle.plan.proofs.belongs.place_past.Tie as tie
 returns : tie.Need-returns
 returns c = search decided
 
-cast-if2 : tie.Need-cast-if2
-cast-if2 c = search needs
-
 returns-2 : tie.Need-returns-2
 returns-2 c = search decided
 
 returns-3 : tie.Need-returns-3
 returns-3 c = search decided
-
-cast-result : tie.Need-cast-result
-cast-result c = search needs
 
 returns-4 : tie.Need-returns-4
 returns-4 c = search decided
@@ -27,8 +20,6 @@ place-past-spec =
     tie.close
     (tie.spec
     returns
-    cast-if2
     returns-2
     returns-3
-    cast-result
     returns-4)

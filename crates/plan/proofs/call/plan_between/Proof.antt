@@ -1,6 +1,7 @@
 -- `plan::call::plan_between` meets its contract. Assumes nothing.
 use borrow.Author.Needs.{needs}
 use Rattle.plan.proofs.Begins.{begins-opening, begins-frame, begins-again, begins-closing}
+use Rattle.plan.proofs.Telling.{told-closing}
 use Rattle.plan.proofs.call.plan_between.Statement.{statement}
 use Rattle.plan.proofs.call.plan_between.Tie as tie
 
@@ -40,7 +41,7 @@ plan-closing-requires c κs = search needs
 returns-4 : tie.Need-returns-4
 returns-4 c =
     let a = c .before .before .before .before .before .before .before .before .before .args in
-    rw (begins-closing (a .state) (a .file .now) (a .room) (a .progress) (c .before .before .before .before .before .if1 .left) (c .before .before .before .if2 .left) (c .before .before .if3 .left), ← (c .before .closing-at .ensures)) (c .plan-closing .ensures)
+    rw (begins-closing (a .state) (a .file .now) (a .room) (a .progress) (c .before .before .before .before .before .if1 .left) (c .before .before .before .if2 .left) (c .before .before .if3 .left), ← (c .before .closing-at .ensures), c .plan-closing .ensures) (told-closing (a .state) (a .room) (c .before .closing-at .result))
 
 pub plan-between-spec : {M : Type 1} → statement M
 plan-between-spec =

@@ -1,9 +1,10 @@
 -- `plan::call::plan_part` meets its contract. Assumes nothing.
 use borrow.Author.Needs.{needs}
-use Rattle.format.specs.Pace.{plan}
 use mathlib.Core.Path.{ap, sym, _∙_}
 use Rattle.format.specs.declared.player.Part.{Part}
-use Rattle.plan.specs.Told.{planTold}
+use Rattle.format.specs.Pace.{plan}
+use Rattle.plan.specs.Told.{planTold, takenTold}
+use Rattle.plan.proofs.Telling.{told-closing}
 use Rattle.plan.proofs.call.plan_part.Statement.{statement}
 use Rattle.plan.proofs.call.plan_part.Tie as tie
 
@@ -53,7 +54,7 @@ returns-4 : tie.Need-returns-4
 unfolding plan
 returns-4 c =
     let a = c .before .before .before .before .args in
-    c .plan-closing .ensures ∙ ap (λ (part : Part). planTold (a .state) (plan (a .state) (a .file .now) (a .room) (a .progress) part)) (sym (c .before .enum-told4 .given .1))
+    ap (takenTold (a .state)) (c .plan-closing .ensures) ∙ told-closing (a .state) (a .room) (a .progress) ∙ ap (λ (part : Part). planTold (a .state) (plan (a .state) (a .file .now) (a .room) (a .progress) part)) (sym (c .before .enum-told4 .given .1))
 
 pub plan-part-spec : {M : Type 1} → statement M
 plan-part-spec =

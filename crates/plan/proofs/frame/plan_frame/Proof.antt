@@ -5,19 +5,19 @@ use borrow.Author.Tests.{eq-eqb, ne-eqb}
 use Rattle.format.specs.Pace.{planFrame}
 use Rattle.plan.proofs.Telling.{told-bind}
 use mathlib.Core.Path.{ap}
-use Rattle.plan.specs.declared.answer.CallPlan.{CallPlan}
+use Rattle.plan.specs.declared.taken.Taken.{Taken}
 use Rattle.plan.proofs.frame.plan_frame.Statement.{statement}
 use Rattle.plan.proofs.frame.plan_frame.Tie as tie
 
 pace-requires : tie.Need-pace-requires
 pace-requires c κs = search needs
 
-refused-plan-requires : tie.Need-refused-plan-requires
-refused-plan-requires c κs = search needs
+refused-part-requires : tie.Need-refused-part-requires
+refused-part-requires c κs = search needs
 
 returns : tie.Need-returns
 unfolding planFrame
-returns c = (rw (told-bind, ← (c .before .before .pace .ensures .0), c .before .if1 .taken) (c .refused-plan .ensures), omega (arith, ap (λ (plan : CallPlan). plan .count) (c .refused-plan .ensures)))
+returns c = (rw (told-bind, ← (c .before .before .pace .ensures .0), c .before .if1 .taken, c .refused-part .ensures), omega (arith, ap (λ (t : Taken). t .count) (c .refused-part .ensures)))
 
 sub-count : tie.Need-sub-count
 sub-count c = omega arith
@@ -28,37 +28,29 @@ operations-left-requires c κs = search needs
 frame-ended-requires : tie.Need-frame-ended-requires
 frame-ended-requires c κs = search needs
 
-moved-requires : tie.Need-moved-requires
-moved-requires c κs = search needs
-
 returns-2 : tie.Need-returns-2
 unfolding planFrame
 returns-2 c =
-    let left = c .before .before .before in
+    let left = c .before .before in
     let pace = left .before .before .before .before in
-    (rw (told-bind, ← (pace .pace .ensures .0), left .before .before .before .if1 .left, ← (left .operations-left .ensures .0), eq-eqb _ _ (c .before .before .if2 .taken), c .moved .ensures, c .before .frame-ended .ensures), omega arith)
-
-moved-requires-2 : tie.Need-moved-requires-2
-moved-requires-2 c κs = search needs
+    (rw (told-bind, ← (pace .pace .ensures .0), left .before .before .before .if1 .left, ← (left .operations-left .ensures .0), eq-eqb _ _ (c .before .if2 .taken), c .frame-ended .ensures), omega arith)
 
 returns-3 : tie.Need-returns-3
 unfolding planFrame
 returns-3 c =
-    let left = c .before .before in
+    let left = c .before in
     let pace = left .before .before .before .before in
-    (rw (told-bind, ← (pace .pace .ensures .0), left .before .before .before .if1 .left, ← (left .operations-left .ensures .0), ne-eqb _ _ (c .before .if2 .left), c .moved2 .ensures), omega arith)
+    (rw (told-bind, ← (pace .pace .ensures .0), left .before .before .before .if1 .left, ← (left .operations-left .ensures .0), ne-eqb _ _ (c .if2 .left)), omega arith)
 
 pub plan-frame-spec : {M : Type 1} → statement M
 plan-frame-spec =
     tie.close
     (tie.spec
     pace-requires
-    refused-plan-requires
+    refused-part-requires
     returns
     sub-count
     operations-left-requires
     frame-ended-requires
-    moved-requires
     returns-2
-    moved-requires-2
     returns-3)

@@ -1,7 +1,7 @@
--- `plan::answer::behind` meets its contract. Assumes nothing.
+-- `plan::taken::behind` meets its contract. Assumes nothing.
 use borrow.Author.Needs.{needs}
-use Rattle.plan.proofs.answer.behind.Statement.{statement}
-use Rattle.plan.proofs.answer.behind.Tie as tie
+use Rattle.plan.proofs.taken.behind.Statement.{statement}
+use Rattle.plan.proofs.taken.behind.Tie as tie
 
 returns : tie.Need-returns
 returns c = rw (c .if1 .taken)

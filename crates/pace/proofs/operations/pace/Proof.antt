@@ -1,4 +1,4 @@
--- `plan::pace::pace` meets its contract. Assumes nothing.
+-- `pace::operations::pace` meets its contract. Assumes nothing.
 use borrow.Author.Needs.{needs}
 use native.Mathlib.Omega.{arith}
 use borrow.Author.Tests.{lt-ltb, le-ltb}
@@ -7,9 +7,9 @@ use mathlib.Core.Path.{_≡_}
 use Rattle.format.specs.Pace.{paced}
 use Rattle.format.specs.Player.{placed, operationsLeft, as25}
 use Rattle.agreement.proofs.Paced.{paced-end, paced-full}
-use Rattle.plan.proofs.Pacing.{paced-25}
-use Rattle.plan.proofs.pace.pace.Statement.{statement}
-use Rattle.plan.proofs.pace.pace.Tie as tie
+use Rattle.pace.proofs.Pacing.{paced-25}
+use Rattle.pace.proofs.operations.pace.Statement.{statement}
+use Rattle.pace.proofs.operations.pace.Tie as tie
 
 abbrev Inv-loop : tie.InvT-loop
 Inv-loop file state limit room progress waves₀ cursor₀ operations₀ writes₀ free₀ left₀ waves cursor operations writes free left =

@@ -1,11 +1,11 @@
--- `plan::waves::waves_by` meets its contract. Assumes nothing.
+-- `pace::waves::waves_by` meets its contract. Assumes nothing.
 use borrow.Author.Needs.{needs}
 use borrow.Author.Tests.{eq-eqb, ne-eqb}
 use Rattle.format.specs.Player.{wavesBy}
 use mathlib.Core.Path.{ap, sym, _∙_}
 use Rattle.format.specs.declared.pool.Pool.{Pool}
-use Rattle.plan.proofs.waves.waves_by.Statement.{statement}
-use Rattle.plan.proofs.waves.waves_by.Tie as tie
+use Rattle.pace.proofs.waves.waves_by.Statement.{statement}
+use Rattle.pace.proofs.waves.waves_by.Tie as tie
 
 enum-told : tie.Need-enum-told
 enum-told c = search needs

@@ -1,5 +1,4 @@
 // The operations that are left of a part, as far as there is room for their writes.
-use crate::progress::operations_left;
 use crate::waves::count_of;
 use crate::waves::waves_now;
 use format::Progress;
@@ -7,17 +6,29 @@ use format::StreamPlayer;
 use used::ItemUsed;
 use used::item_used;
 ghost use mathlib.Core.Path.{_≡_};
-ghost use Prim.Native.Nat.{_≤_};
+ghost use Prim.Native.Nat.{_+_, _^_, _≤_, _<_};
 ghost use Rattle.format.specs.Checked.{refused};
 ghost use Rattle.format.specs.Pace.{paced};
 ghost use Rattle.format.specs.Player.{operationsLeft, as25};
-ghost use Rattle.plan.specs.Told.{paceOf};
+ghost use Rattle.pace.specs.Told.{paceOf};
 
 // The room that is left and the progress; or refusal 25.
 pub struct Paced {
     pub refused: bool,
     pub room: usize,
     pub progress: Progress,
+}
+
+// How many operations of the part are not done.
+pub fn operations_left(progress: Progress) -> u32
+    ensures { λ r. ⌜ (r ≡ operationsLeft progress) × (progress .«operation_index» + r < 2 ^ 32) ⌝ }
+{
+    let count = progress.operation_count;
+    let done = progress.operation_index;
+    if count < done {
+        return 0;
+    }
+    count - done
 }
 
 fn refused_pace(progress: Progress) -> Paced

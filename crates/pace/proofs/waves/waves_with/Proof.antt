@@ -1,11 +1,11 @@
--- `plan::waves::waves_with` meets its contract. Assumes nothing.
+-- `pace::waves::waves_with` meets its contract. Assumes nothing.
 use borrow.Author.Needs.{needs}
 use native.Mathlib.Omega.{arith}
 use Prim.Native.Nat.{_+_, _*_, _/_}
 use lib.Seq.{set-out}
 use mathlib.Core.Bool.{true}
-use Rattle.plan.proofs.waves.waves_with.Statement.{statement}
-use Rattle.plan.proofs.waves.waves_with.Tie as tie
+use Rattle.pace.proofs.waves.waves_with.Statement.{statement}
+use Rattle.pace.proofs.waves.waves_with.Tie as tie
 
 mul-i : tie.Need-mul-i
 mul-i c = search needs

@@ -1,7 +1,7 @@
--- `plan::waves::count_of` meets its contract. Assumes nothing.
+-- `pace::waves::count_of` meets its contract. Assumes nothing.
 use borrow.Author.Needs.{needs}
-use Rattle.plan.proofs.waves.count_of.Statement.{statement}
-use Rattle.plan.proofs.waves.count_of.Tie as tie
+use Rattle.pace.proofs.waves.count_of.Statement.{statement}
+use Rattle.pace.proofs.waves.count_of.Tie as tie
 
 enum-told : tie.Need-enum-told
 enum-told c = search needs

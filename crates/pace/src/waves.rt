@@ -5,7 +5,7 @@ use tables::read_pool;
 ghost use mathlib.Core.Path.{_≡_};
 ghost use Rattle.format.specs.Pace.{countOf};
 ghost use Rattle.format.specs.Player.{wavesBy};
-ghost use Rattle.plan.specs.Told.{wavesWith, wavesNow};
+ghost use Rattle.pace.specs.Told.{wavesWith, wavesNow};
 
 pub fn count_of(operation: Operation) -> u32
     ensures { λ r. ⌜ r ≡ countOf operation ⌝ }

@@ -1,8 +1,8 @@
--- `plan::waves::waves_now` meets its contract. Assumes nothing.
+-- `pace::waves::waves_now` meets its contract. Assumes nothing.
 use borrow.Author.Needs.{needs}
 use borrow.Author.Tests.{eq-eqb, ne-eqb}
-use Rattle.plan.proofs.waves.waves_now.Statement.{statement}
-use Rattle.plan.proofs.waves.waves_now.Tie as tie
+use Rattle.pace.proofs.waves.waves_now.Statement.{statement}
+use Rattle.pace.proofs.waves.waves_now.Tie as tie
 
 waves-by-requires : tie.Need-waves-by-requires
 waves-by-requires c κs = search needs

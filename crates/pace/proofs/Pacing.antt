@@ -12,7 +12,7 @@ use Rattle.format.specs.Operation.{Item}
 use Rattle.format.specs.Pace.{countOf, paced}
 use Rattle.format.specs.Player.{itemUsed, placed, as25}
 use Rattle.agreement.proofs.Paced.{paced-step}
-use Rattle.plan.specs.Told.{wavesNow}
+use Rattle.pace.specs.Told.{wavesNow}
 use Rattle.used.specs.Used.{itemUsedBy}
 use Rattle.used.proofs.Same.{used-as25}
 
