@@ -4,10 +4,12 @@ use mathlib.Core.Bool.{Bool, true, false, cond, not, true≢false, false≢true}
 use mathlib.Core.List.{List}
 use mathlib.Core.Path.{_≡_, refl, _∙_}
 use borrow.Author.Tests.{lt-ltb, le-ltb}
+use Rattle.format.specs.declared.player.Part.{Part}
+use Rattle.format.specs.declared.player.Part.the-variants.{Between, Opening, Frame, Closing}
 use Rattle.format.specs.declared.player.Progress.{Progress}
 use Rattle.format.specs.declared.player.StreamPlayer.{StreamPlayer}
 use Rattle.format.specs.Checked.{Checked, _>>_}
-use Rattle.format.specs.Pace.{planOpening, planClosing, plan, planned}
+use Rattle.format.specs.Pace.{planFrame, planOpening, planClosing, plan, planned}
 use Rattle.format.specs.Player.{openingBegun, closingAt, belongs, as25}
 use Rattle.plan.specs.Told.{planBetween, planBegun}
 
@@ -39,3 +41,20 @@ module _ (state : StreamPlayer) (file : List ℕ) (room : ℕ) (p : Progress) wh
   pub begins-closing : not (p .initialized) ≡ false → state .header .«frame_count» ≤ p .«frame_index» → state .header .repeat ≡ false → planBetween state file room p ≡ planClosing state room (closingAt 0 false p)
   unfolding plan
   begins-closing e h once = second (not (p .initialized)) _ _ e ∙ second _ _ _ (le-ltb _ _ h) ∙ second _ _ _ once
+
+  -- THE PART THAT IS PLAYING
+
+  pub goes-between : (part : Part) → part ≡ Between → plan state file room p part ≡ planBetween state file room p
+  goes-between part e = rw e
+
+  pub goes-opening : (part : Part) → part ≡ Opening → plan state file room p part ≡ planOpening state file room p
+  unfolding plan
+  goes-opening part e = rw e
+
+  pub goes-frame : (part : Part) → part ≡ Frame → plan state file room p part ≡ planFrame state file room p
+  unfolding plan
+  goes-frame part e = rw e
+
+  pub goes-closing : (part : Part) → part ≡ Closing → plan state file room p part ≡ planClosing state room p
+  unfolding plan
+  goes-closing part e = rw e

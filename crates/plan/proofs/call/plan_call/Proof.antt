@@ -3,7 +3,6 @@ use borrow.Author.Needs.{needs}
 use Rattle.format.specs.Pace.{planned}
 use Rattle.plan.proofs.Telling.{told-25}
 use Rattle.plan.proofs.Begins.{planned-on}
-use mathlib.Core.Path.{_∙_}
 use Rattle.plan.proofs.call.plan_call.Statement.{statement}
 use Rattle.plan.proofs.call.plan_call.Tie as tie
 
@@ -31,7 +30,7 @@ told-requires c κs = search needs
 returns-3 : tie.Need-returns-3
 returns-3 c =
     let a = c .before .before .before .before .before .before .before .args in
-    rw (planned-on (a .state) (a .file .now) (a .room) (c .before .before .before .before .if1 .left), ← (c .before .before .before .foreign .ensures), c .before .before .if2 .left, told-25) (c .told .ensures ∙ c .before .plan-part .ensures)
+    rw (planned-on (a .state) (a .file .now) (a .room) (c .before .before .before .before .if1 .left), ← (c .before .before .before .foreign .ensures), c .before .before .if2 .left, told-25, c .told .ensures) (c .before .plan-part .ensures)
 
 pub plan-call-spec : {M : Type 1} → statement M
 plan-call-spec =

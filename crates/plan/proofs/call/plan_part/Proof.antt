@@ -1,9 +1,6 @@
 -- `plan::call::plan_part` meets its contract. Assumes nothing.
 use borrow.Author.Needs.{needs}
-use mathlib.Core.Path.{ap, sym, _∙_}
-use Rattle.format.specs.declared.player.Part.{Part}
-use Rattle.format.specs.Pace.{plan}
-use Rattle.plan.specs.Told.{planTold, takenTold}
+use Rattle.plan.proofs.Begins.{goes-between, goes-opening, goes-frame, goes-closing}
 use Rattle.plan.proofs.Telling.{told-closing}
 use Rattle.plan.proofs.call.plan_part.Statement.{statement}
 use Rattle.plan.proofs.call.plan_part.Tie as tie
@@ -33,28 +30,24 @@ plan-closing-requires : tie.Need-plan-closing-requires
 plan-closing-requires c κs = search needs
 
 returns : tie.Need-returns
-unfolding plan
 returns c =
     let a = c .before .before .before .before .args in
-    c .plan-between .ensures ∙ ap (λ (part : Part). planTold (a .state) (plan (a .state) (a .file .now) (a .room) (a .progress) part)) (sym (c .before .enum-told .given .1))
+    rw (goes-between (a .state) (a .file .now) (a .room) (a .progress) (a .progress .part) (c .before .enum-told .given .1)) (c .plan-between .ensures)
 
 returns-2 : tie.Need-returns-2
-unfolding plan
 returns-2 c =
     let a = c .before .before .before .before .args in
-    c .plan-opening .ensures ∙ ap (λ (part : Part). planTold (a .state) (plan (a .state) (a .file .now) (a .room) (a .progress) part)) (sym (c .before .enum-told2 .given .1))
+    rw (goes-opening (a .state) (a .file .now) (a .room) (a .progress) (a .progress .part) (c .before .enum-told2 .given .1)) (c .plan-opening .ensures)
 
 returns-3 : tie.Need-returns-3
-unfolding plan
 returns-3 c =
     let a = c .before .before .before .before .args in
-    c .plan-frame .ensures .0 ∙ ap (λ (part : Part). planTold (a .state) (plan (a .state) (a .file .now) (a .room) (a .progress) part)) (sym (c .before .enum-told3 .given .1))
+    rw (goes-frame (a .state) (a .file .now) (a .room) (a .progress) (a .progress .part) (c .before .enum-told3 .given .1)) (c .plan-frame .ensures .0)
 
 returns-4 : tie.Need-returns-4
-unfolding plan
 returns-4 c =
     let a = c .before .before .before .before .args in
-    ap (takenTold (a .state)) (c .plan-closing .ensures) ∙ told-closing (a .state) (a .room) (a .progress) ∙ ap (λ (part : Part). planTold (a .state) (plan (a .state) (a .file .now) (a .room) (a .progress) part)) (sym (c .before .enum-told4 .given .1))
+    rw (goes-closing (a .state) (a .file .now) (a .room) (a .progress) (a .progress .part) (c .before .enum-told4 .given .1), c .plan-closing .ensures) (told-closing (a .state) (a .room) (a .progress))
 
 pub plan-part-spec : {M : Type 1} → statement M
 plan-part-spec =
