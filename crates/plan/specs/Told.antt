@@ -3,6 +3,7 @@ use Prim.Native.Nat.{ℕ, _+_, _-_, min}
 use mathlib.Core.Bool.{Bool, true, false, cond}
 use mathlib.Core.List.{List}
 use lib.Dec.{leb, ltb}
+use Rattle.format.specs.declared.player.Part.{Part}
 use Rattle.format.specs.declared.player.Part.the-variants.{Between}
 use Rattle.format.specs.declared.player.Progress.{Progress}
 use Rattle.format.specs.declared.player.StreamPlayer.{StreamPlayer}
@@ -43,6 +44,11 @@ behind count t =
 abbrev pub closingTaken : (si22 : Bool) → (room : ℕ) → Progress → Taken
 closingTaken si22 room p =
     cond (ltb (cond si22 33 32) (p .«write_index»)) (nothing p) (record { refused = false; count = min room (cond si22 33 32 - p .«write_index»); complete = leb (cond si22 33 32 - p .«write_index») room; progress = closingAt (p .«write_index» + min room (cond si22 33 32 - p .«write_index»)) (leb (cond si22 33 32 - p .«write_index») room) p })
+
+-- no operation of a part is done
+abbrev pub begun : Part → (cursor operations frame : ℕ) → (initialized : Bool) → Progress → Progress
+begun part cursor operations frame initialized p =
+    record { part = part; cursor = cursor; «operation_index» = 0; «operation_count» = operations; «write_index» = 0; «frame_index» = frame; initialized = initialized; finished = false; «wave_sources» = p .«wave_sources» }
 
 -- PLANS
 

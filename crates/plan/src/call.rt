@@ -4,7 +4,7 @@ use crate::closing::plan_closing;
 use crate::frame::begin_frame;
 use crate::frame::plan_frame;
 use crate::opening::plan_opening;
-use crate::progress::opening_begun;
+use crate::progress::begun;
 use crate::taken::Taken;
 use format::Part;
 use format::Progress;
@@ -27,8 +27,16 @@ fn plan_between(file: &[u8], state: StreamPlayer, room: usize, progress: Progres
 {
     let header = state.header;
     if !progress.initialized {
-        let begun = opening_begun(header, progress);
-        return plan_opening(file, state, room, begun);
+        let opening = header.initial_start as usize;
+        let start = begun(
+            Part::Opening,
+            opening,
+            header.initial_count,
+            0,
+            false,
+            progress,
+        );
+        return plan_opening(file, state, room, start);
     }
     let frame = progress.frame_index;
     if frame < header.frame_count {

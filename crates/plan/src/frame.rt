@@ -1,8 +1,9 @@
 // What a call takes of a frame.
-use crate::progress::frame_ended;
-use crate::progress::frame_start;
+use crate::progress::begun;
 use crate::taken::Taken;
 use crate::taken::refused_part;
+use big_endian::read_u16;
+use format::Part;
 use format::Progress;
 use format::StreamPlayer;
 use pace::operations_left;
@@ -22,7 +23,14 @@ pub fn plan_frame(file: &[u8], state: StreamPlayer, room: usize, progress: Progr
     let after = paced.progress;
     let count = room - paced.room;
     if operations_left(after) == 0 {
-        let ended = frame_ended(after);
+        let ended = begun(
+            Part::Between,
+            after.cursor,
+            0,
+            after.frame_index,
+            true,
+            after,
+        );
         return Taken {
             refused: false,
             count: count,
@@ -56,6 +64,7 @@ pub fn begin_frame(
     if file.len() - 2 < cursor {
         return refused_part(progress);
     }
-    let begun = frame_start(file, cursor, frame, progress);
-    plan_frame(file, state, room, begun)
+    let count = read_u16(file, cursor) as u32;
+    let start = begun(Part::Frame, cursor + 2, count, frame + 1, true, progress);
+    plan_frame(file, state, room, start)
 }

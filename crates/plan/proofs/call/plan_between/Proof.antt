@@ -5,16 +5,19 @@ use Rattle.plan.proofs.Telling.{told-closing}
 use Rattle.plan.proofs.call.plan_between.Statement.{statement}
 use Rattle.plan.proofs.call.plan_between.Tie as tie
 
-opening-begun-requires : tie.Need-opening-begun-requires
-opening-begun-requires c κs = search needs
+cast-opening : tie.Need-cast-opening
+cast-opening c = search needs
+
+begun-requires : tie.Need-begun-requires
+begun-requires c κs = search needs
 
 plan-opening-requires : tie.Need-plan-opening-requires
 plan-opening-requires c κs = search needs
 
 returns : tie.Need-returns
 returns c =
-    let a = c .before .before .before .before .before .before .args in
-    rw (begins-opening (a .state) (a .file .now) (a .room) (a .progress) (c .before .before .if1 .taken), ← (c .before .opening-begun .ensures)) (c .plan-opening .ensures)
+    let a = c .before .before .before .before .before .before .before .args in
+    rw (begins-opening (a .state) (a .file .now) (a .room) (a .progress) (c .before .before .before .if1 .taken), ← (c .before .begun .ensures)) (c .plan-opening .ensures)
 
 begin-frame-requires : tie.Need-begin-frame-requires
 begin-frame-requires c κs = search needs
@@ -47,7 +50,8 @@ pub plan-between-spec : {M : Type 1} → statement M
 plan-between-spec =
     tie.close
     (tie.spec
-    opening-begun-requires
+    cast-opening
+    begun-requires
     plan-opening-requires
     returns
     begin-frame-requires

@@ -31,8 +31,20 @@ returns-2 c =
     let a = c .before .before .before .before .args in
     (rw (lt-ltb (length (a .file .now)) (a .cursor + 2) (omega arith), c .refused-part2 .ensures), omega (arith, ap (λ (t : Taken). t .count) (c .refused-part2 .ensures)))
 
-frame-start-requires : tie.Need-frame-start-requires
-frame-start-requires c κs = search needs
+read-u16-requires : tie.Need-read-u16-requires
+read-u16-requires c κs = search needs
+
+cast-count : tie.Need-cast-count
+cast-count c = search needs
+
+add-begun : tie.Need-add-begun
+add-begun c = search needs
+
+add-begun-2 : tie.Need-add-begun-2
+add-begun-2 c = search needs
+
+begun-requires : tie.Need-begun-requires
+begun-requires c κs = search needs
 
 plan-frame-requires : tie.Need-plan-frame-requires
 plan-frame-requires c κs = search needs
@@ -40,8 +52,8 @@ plan-frame-requires c κs = search needs
 returns-3 : tie.Need-returns-3
 unfolding frameBegun
 returns-3 c =
-    let a = c .before .before .before .before .before .args in
-    (rw (le-ltb (length (a .file .now)) (a .cursor + 2) (omega arith), ← (c .before .frame-start .ensures)) (c .plan-frame .ensures .0), c .plan-frame .ensures .1)
+    let a = c .before .before .before .before .before .before .args in
+    (rw (le-ltb (length (a .file .now)) (a .cursor + 2) (omega arith), ← (c .before .before .read-u16 .ensures), ← (c .before .begun .ensures)) (c .plan-frame .ensures .0), c .plan-frame .ensures .1)
 
 pub begin-frame-spec : {M : Type 1} → statement M
 begin-frame-spec =
@@ -52,6 +64,10 @@ begin-frame-spec =
     sub-if2
     refused-part-requires-2
     returns-2
-    frame-start-requires
+    read-u16-requires
+    cast-count
+    add-begun
+    add-begun-2
+    begun-requires
     plan-frame-requires
     returns-3)

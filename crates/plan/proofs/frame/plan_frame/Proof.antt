@@ -25,15 +25,15 @@ sub-count c = omega arith
 operations-left-requires : tie.Need-operations-left-requires
 operations-left-requires c κs = search needs
 
-frame-ended-requires : tie.Need-frame-ended-requires
-frame-ended-requires c κs = search needs
+begun-requires : tie.Need-begun-requires
+begun-requires c κs = search needs
 
 returns-2 : tie.Need-returns-2
 unfolding planFrame
 returns-2 c =
     let left = c .before .before in
     let pace = left .before .before .before .before in
-    (rw (told-bind, ← (pace .pace .ensures .0), left .before .before .before .if1 .left, ← (left .operations-left .ensures .0), eq-eqb _ _ (c .before .if2 .taken), c .frame-ended .ensures), omega arith)
+    (rw (told-bind, ← (pace .pace .ensures .0), left .before .before .before .if1 .left, ← (left .operations-left .ensures .0), eq-eqb _ _ (c .before .if2 .taken), c .begun .ensures), omega arith)
 
 returns-3 : tie.Need-returns-3
 unfolding planFrame
@@ -51,6 +51,6 @@ plan-frame-spec =
     returns
     sub-count
     operations-left-requires
-    frame-ended-requires
+    begun-requires
     returns-2
     returns-3)
