@@ -1,14 +1,14 @@
 -- A plan's answer, state and records are the call's.
 use Prim.Native.Nat.{ℕ}
 use mathlib.Core.Bool.{Bool, true, false, cond}
-use mathlib.Core.List.{List}
+use mathlib.Core.List.{List, []}
 use mathlib.Core.Path.{_≡_, refl, sym, ap, _∙_}
 use lib.ListN.{length}
 use Rattle.format.specs.declared.operation.WriteRecord.{WriteRecord}
 use Rattle.format.specs.declared.player.StreamPlayer.{StreamPlayer}
-use Rattle.format.specs.Checked.{Checked, ok, refused, mapped}
-use Rattle.format.specs.Pace.{Plan, planOf, planned}
-use Rattle.format.specs.Player.{Played, as25, call, runAfter}
+use Rattle.format.specs.Checked.{Checked, ok, refused, mapped, _>>_}
+use Rattle.format.specs.Pace.{planOf, planned}
+use Rattle.format.specs.Player.{Played, play, belongs, as25, call, runAfter}
 use Rattle.format.proofs.Checks.{refused-not-ok}
 use Rattle.agreement.proofs.Planned.{planned-is}
 use Rattle.plan.specs.declared.call.CallPlan.{CallPlan}
@@ -21,6 +21,19 @@ use Rattle.player.specs.Vsync.{vsyncOf, stateAfter}
 -- what a plan tells
 abbrev pub toldOf : CallPlan → Vsync
 toldOf plan = record { refused = plan .refused; count = plan .count; complete = plan .complete }
+
+-- whatever a call refuses is 25, at place 0
+pub refused-25 : (state : StreamPlayer) (file : List ℕ) (room number place : ℕ) → call state file room ≡ refused number place → (number ≡ 25) × (place ≡ 0)
+unfolding call
+refused-25 state file room number place e = either (state .progress .finished) (belongs state file >> play state file room (state .progress) (state .progress .part)) e
+  where
+    as-25 : (x : Checked Played) → as25 x ≡ refused number place → (number ≡ 25) × (place ≡ 0)
+    as-25 (ok a) e = absurd (refused-not-ok (sym e))
+    as-25 (refused n p) e = (cc, cc)
+
+    either : (b : Bool) (x : Checked Played) → cond b (ok (record { records = []; complete = true; next = state })) (as25 x) ≡ refused number place → (number ≡ 25) × (place ≡ 0)
+    either true x e = absurd (refused-not-ok (sym e))
+    either false x e = as-25 x e
 
 module _ (state : StreamPlayer) (file : List ℕ) (run : List WriteRecord) where
   abbrev answer : Checked Played

@@ -6,7 +6,7 @@ use Rattle.format.specs.Checked.{Checked, ok, refused}
 use Rattle.format.specs.Player.{Played}
 use Rattle.player.specs.declared.vsync.Vsync.{Vsync}
 
--- a refusal is always 25, at place 0: `refused-25` of proofs/Vsync.antt
+-- a refusal is always 25, at place 0: `refused-25` of proofs/Calls.antt
 abbrev pub vsyncOf : Checked Played → Vsync
 vsyncOf (ok answer) = record { refused = false; count = length (answer .records); complete = answer .complete }
 vsyncOf (refused number place) = record { refused = true; count = 0; complete = false }
