@@ -1,2 +1,2 @@
 pub mod Playable
-pub mod Less
+pub mod Fewer

@@ -2,4 +2,3 @@ pub mod Place
 pub mod Closing
 pub mod Operation
 pub mod Turn
-pub mod Begin

@@ -19,7 +19,7 @@ use Rattle.format.specs.Player.{Played, openingBegun, frameBegun, closingAt, pl
 use Rattle.format.proofs.Checks.{refused-not-ok, through, passed-check, ok-is}
 use Rattle.agreement.proofs.Planned.{records-fit}
 use Rattle.segments.specs.declared.place.Place.{Place}
-use Rattle.segments.specs.Begin.{nowhere, closingFrom, frameAt, openingPlace, betweenPlace, partPlace, firstPlace}
+use Rattle.begin.specs.Begin.{nowhere, closingFrom, frameAt, openingPlace, betweenPlace, partPlace, firstPlace}
 use Rattle.writes.specs.Segment.{inserted}
 use Rattle.store.specs.Stored.{storedFrom, storedCall}
 use Rattle.store.proofs.Storing.{stored-none}

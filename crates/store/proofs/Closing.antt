@@ -17,7 +17,7 @@ use Rattle.format.specs.Writes.{write, upward, silence, closingWrites}
 use Rattle.format.proofs.Checks.{passed-test, ok-is}
 use Rattle.segments.specs.declared.place.Place.{Place}
 use Rattle.segments.specs.declared.place.Turn.{Turn}
-use Rattle.segments.specs.Begin.{closingCount, closingFrom}
+use Rattle.begin.specs.Begin.{closingCount, closingFrom}
 use Rattle.segments.specs.Closing.{zeroTo, closingSegment}
 use Rattle.segments.specs.Place.{stopped}
 use Rattle.segments.specs.Turn.{closingTurn, turn}

@@ -18,7 +18,7 @@ use Rattle.format.specs.State.{moved}
 use Rattle.format.specs.Stream.{openingLimit}
 use Rattle.format.proofs.Checks.{through, passed-test, ok-is}
 use Rattle.segments.specs.declared.place.Place.{Place}
-use Rattle.segments.specs.Begin.{nowhere, framePlace, frameAt, openingPlace}
+use Rattle.begin.specs.Begin.{nowhere, framePlace, frameAt, openingPlace}
 use Rattle.segments.specs.Place.{onward}
 use Rattle.segments.specs.Turn.{limitAt, turn, operationTurn}
 use Rattle.writes.specs.Segment.{inserted}

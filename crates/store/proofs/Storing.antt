@@ -12,9 +12,9 @@ use Rattle.format.specs.declared.operation.WriteRecord.{WriteRecord}
 use Rattle.format.specs.declared.player.StreamPlayer.{StreamPlayer}
 use Rattle.format.proofs.Checks.{positive}
 use Rattle.segments.specs.declared.place.Place.{Place}
-use Rattle.segments.specs.Begin.{firstPlace}
+use Rattle.begin.specs.Begin.{firstPlace}
 use Rattle.segments.specs.Turn.{turn}
-use Rattle.segments.proofs.Less.{turn-less}
+use Rattle.segments.proofs.Fewer.{turn-less}
 use Rattle.writes.specs.Segment.{segmentStored}
 use Rattle.writes.proofs.Segments.{stored-long}
 use Rattle.store.specs.Stored.{storedIn, storedFrom, storedCall}

@@ -7,7 +7,7 @@ use lib.ListN.{length}
 use Rattle.format.specs.declared.operation.WriteRecord.{WriteRecord}
 use Rattle.format.specs.declared.player.StreamPlayer.{StreamPlayer}
 use Rattle.segments.specs.declared.place.Place.{Place}
-use Rattle.segments.specs.Begin.{firstPlace}
+use Rattle.begin.specs.Begin.{firstPlace}
 use Rattle.segments.specs.Turn.{turn}
 use Rattle.writes.specs.Segment.{segmentStored}
 

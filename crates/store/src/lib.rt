@@ -1,7 +1,7 @@
 // The second pass of a vsync call: its records are stored in the lent run, segment after segment.
+use begin::first_place;
 use format::StreamPlayer;
 use format::WriteRecord;
-use segments::first_place;
 use segments::next_segment;
 use writes::store_segment;
 ghost use mathlib.Core.Path.{_≡_};

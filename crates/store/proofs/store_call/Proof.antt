@@ -51,17 +51,17 @@ use Rattle.format.proofs.player.StreamPlayer as Q
 use Rattle.format.proofs.player.StreamPlayer.Laws as Q′
 use Rattle.segments.specs.declared.place.Place.{Place}
 use Rattle.segments.specs.declared.place.Turn.{Turn}
-use Rattle.segments.specs.Begin.{firstPlace}
+use Rattle.begin.specs.Begin.{firstPlace}
 use Rattle.segments.specs.Turn.{turn}
-use Rattle.segments.proofs.Less.{turn-less}
+use Rattle.segments.proofs.Fewer.{turn-less}
 use Rattle.segments.proofs.place.Place as P
 use Rattle.segments.proofs.place.Place.Laws as P′
 use Rattle.segments.proofs.place.Turn as U
 use Rattle.segments.proofs.place.Turn.Laws as U′
-use Rattle.segments.proofs.first_place as fp
-use Rattle.segments.proofs.first_place.Symbol as fp-def
-use Rattle.segments.proofs.first_place.Symbol.{name as #segments·first-place}
-use Rattle.segments.proofs.first_place.Met as fp-thm
+use Rattle.begin.proofs.first_place as fp
+use Rattle.begin.proofs.first_place.Symbol as fp-def
+use Rattle.begin.proofs.first_place.Symbol.{name as #begin·first-place}
+use Rattle.begin.proofs.first_place.Met as fp-thm
 use Rattle.segments.proofs.next_segment as ns
 use Rattle.segments.proofs.next_segment.Symbol as ns-def
 use Rattle.segments.proofs.next_segment.Symbol.{name as #segments·next-segment}
@@ -208,7 +208,7 @@ module _ {M : Type 1} (𝓤 : URA M) (H : Heap 𝓤) (A : Atoms 𝓤) (W : Given
       nothing ! $ owned ! G.the-row (Is G.the-row) ((LL.makes G.the-type G′.the-plain) 𝓤 H A) g _ g-is $ fjoin ! $ move ! (2 ∷ 0 ∷ []) $ fjoin ! $ owned ! usize (Is usize) (uint-makes 𝓤 H A W w64) k _ (refl, k-fits) $ fjoin ! $ move ! (1 ∷ 0 ∷ []) $ fjoin ! $
       nothing ! $ move ! (3 ∷ 0 ∷ []) $ join ! $ move ! (2 ∷ 0 ∷ []) $ join ! $ nothing ! $ move ! (1 ∷ 2 ∷ 0 ∷ []) $ join ! $ join ! $ done !
 
-  module _ (𝓣 : Tables 𝓤 H) (known-first : Triple 𝓤 (𝓣 .C #segments·first-place) (First 𝓤 H A mem run)) (known-next : Triple 𝓤 (𝓣 .C #segments·next-segment) (Next 𝓤 H A mem run)) (known-put : Triple 𝓤 (𝓣 .C #writes·store-segment) (Put 𝓤 H A mem run)) where
+  module _ (𝓣 : Tables 𝓤 H) (known-first : Triple 𝓤 (𝓣 .C #begin·first-place) (First 𝓤 H A mem run)) (known-next : Triple 𝓤 (𝓣 .C #segments·next-segment) (Next 𝓤 H A mem run)) (known-put : Triple 𝓤 (𝓣 .C #writes·store-segment) (Put 𝓤 H A mem run)) where
     abbrev C : Calls 𝓤 H
     C = 𝓣 .C
 
@@ -337,14 +337,14 @@ module _ {M : Type 1} (𝓤 : URA M) (H : Heap 𝓤) (A : Atoms 𝓤) (W : Given
         body l₀ l₁ l₂ l₃ l₄ l₅ l₆ l₇ l₈ l₉ l₁₀ l₁₁))))))))))))
 
 module _ {M : Type 1} (𝓤 : URA M) (H : Heap 𝓤) (A : Atoms 𝓤) (W : Given 𝓤 H A) (mem : Memory → SProp 𝓤) (run : Routine → Fun 𝓤) where
-  store-call-walks : (𝓣 : Tables 𝓤 H) → Triple 𝓤 (𝓣 .C #segments·first-place) (First 𝓤 H A mem run) → Triple 𝓤 (𝓣 .C #segments·next-segment) (Next 𝓤 H A mem run) → Triple 𝓤 (𝓣 .C #writes·store-segment) (Put 𝓤 H A mem run)
+  store-call-walks : (𝓣 : Tables 𝓤 H) → Triple 𝓤 (𝓣 .C #begin·first-place) (First 𝓤 H A mem run) → Triple 𝓤 (𝓣 .C #segments·next-segment) (Next 𝓤 H A mem run) → Triple 𝓤 (𝓣 .C #writes·store-segment) (Put 𝓤 H A mem run)
       → Walks 𝓤 H A f.ended stayed (WpFn 𝓤 H (𝓣 .C) (𝓣 .Λ) code.function) (f.clauses 𝓤 H A mem run)
   store-call-walks 𝓣 known-first known-next known-put = walked 𝓤 H A f.ended stayed (f.clauses 𝓤 H A mem run) (WpFn 𝓤 H (𝓣 .C) (𝓣 .Λ) code.function)
       (λ κs. (slice-vals, (slice-vals, (LL.vals Q.the-type Q′.the-laws, (uint-vals w64, tt))))) (λ κs. (mut-slice-tells (named 0) (κs .0) T.the-row, (shr-slice-tells (named 1) (κs .1 .0) u8, (LL.tells Q.the-type Q′.the-laws, (uint-tells w64, tt)))))
       (λ κs qs bounds a _ are. via 𝓤 _ (fst∗ 𝓤 _ (emp 𝓤)) (walk 𝓤 H A W mem run (κs .0) (κs .1 .0) (qs .0) (qs .1 .0) (a .0 .ptr .0) (a .0 .ptr .1) (a .1 .0 .ptr .0) (a .1 .0 .ptr .1) (a .0 .name) (a .1 .0 .name) (a .0 .now) (a .1 .0 .now) (a .1 .1 .0) (a .1 .1 .1 .0)
       (are .1 .1 .0) (are .1 .1 .1 .0 .1) (are .0 .0 .1) (are .1 .0 .0 .1) 𝓣 known-first known-next known-put))
 
-store-call-meets : {M : Type 1} (𝓤 : URA M) (H : Heap 𝓤) (A : Atoms 𝓤) → Given 𝓤 H A → (mem : Memory → SProp 𝓤) (run : Routine → Fun 𝓤) (𝓣 : Tables 𝓤 H) → Triple 𝓤 (𝓣 .C #segments·first-place) (First 𝓤 H A mem run) → Triple 𝓤 (𝓣 .C #segments·next-segment) (Next 𝓤 H A mem run) → Triple 𝓤 (𝓣 .C #writes·store-segment) (Put 𝓤 H A mem run)
+store-call-meets : {M : Type 1} (𝓤 : URA M) (H : Heap 𝓤) (A : Atoms 𝓤) → Given 𝓤 H A → (mem : Memory → SProp 𝓤) (run : Routine → Fun 𝓤) (𝓣 : Tables 𝓤 H) → Triple 𝓤 (𝓣 .C #begin·first-place) (First 𝓤 H A mem run) → Triple 𝓤 (𝓣 .C #segments·next-segment) (Next 𝓤 H A mem run) → Triple 𝓤 (𝓣 .C #writes·store-segment) (Put 𝓤 H A mem run)
     → Meets 𝓤 H A f.signature (WpFn 𝓤 H (𝓣 .C) (𝓣 .Λ) code.function) (f.spec 𝓤 H A mem run)
 store-call-meets 𝓤 H A W mem run 𝓣 known-first known-next known-put =
     walk-meets 𝓤 H A f.ended stayed W (goes-slice 𝓤 H A W 2 0 tt (plain (λ _. T.the-row)), (goes-none-slice 𝓤 H A W 2 (1 ∷ []) tt (plain (λ _. u8)) yes, (goes-none 𝓤 H A W 2 (λ _. Q.the-row) yes (λ κs x f. refl), (goes-none 𝓤 H A W 2 (λ _. usize) yes (λ κs x f. refl), tt)))) (f.clauses 𝓤 H A mem run)
@@ -356,6 +356,6 @@ store-call-spec 𝓤 H 𝓜 𝓖 𝓡 =
     entered 𝓤 H (tripleOf 𝓤 H (𝓖 .A) f.signature (f.spec 𝓤 H (𝓖 .A) (𝓜 .mem) (𝓡 .run)))
     (tables 𝓤 H 𝓜 𝓡 code.env .C) (tables 𝓤 H 𝓜 𝓡 code.env .Λ) #store·store-call code.function (code.unfolded 𝓤 H 𝓜 𝓡)
     (store-call-meets 𝓤 H (𝓖 .A) (givenOf 𝓤 H 𝓜 𝓖) (𝓜 .mem) (𝓡 .run) (tablesOf 𝓤 H 𝓜 (tables 𝓤 H 𝓜 𝓡 code.env))
-    (cited 𝓤 H (First 𝓤 H (𝓖 .A) (𝓜 .mem) (𝓡 .run)) 𝓜 𝓡 code.env #segments·first-place fp-def.routine code.calls-segments·first-place (fp-thm.met 𝓤 H 𝓜 𝓖 𝓡))
+    (cited 𝓤 H (First 𝓤 H (𝓖 .A) (𝓜 .mem) (𝓡 .run)) 𝓜 𝓡 code.env #begin·first-place fp-def.routine code.calls-begin·first-place (fp-thm.met 𝓤 H 𝓜 𝓖 𝓡))
     (cited 𝓤 H (Next 𝓤 H (𝓖 .A) (𝓜 .mem) (𝓡 .run)) 𝓜 𝓡 code.env #segments·next-segment ns-def.routine code.calls-segments·next-segment (ns-thm.met 𝓤 H 𝓜 𝓖 𝓡))
     (cited 𝓤 H (Put 𝓤 H (𝓖 .A) (𝓜 .mem) (𝓡 .run)) 𝓜 𝓡 code.env #writes·store-segment ss-def.routine code.calls-writes·store-segment (ss-thm.met 𝓤 H 𝓜 𝓖 𝓡)))

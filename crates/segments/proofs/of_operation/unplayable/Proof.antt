@@ -1,6 +1,6 @@
 -- `segments::of_operation::unplayable` meets its contract. Assumes nothing.
 use borrow.Author.Needs.{needs}
-use borrow.Author.Tests.{le-leb, le-ltb, lt-leb, lt-ltb}
+use borrow.Author.Tests.{le-ltb, lt-ltb}
 use Rattle.segments.specs.Operation.{unplayable}
 use Rattle.segments.proofs.of_operation.unplayable.Statement.{statement}
 use Rattle.segments.proofs.of_operation.unplayable.Tie as tie
@@ -10,7 +10,7 @@ count-of-requires c κs = search needs
 
 returns : tie.Need-returns
 unfolding unplayable
-returns c = simp (← (c .before .count-of .ensures), lt-leb _ _ (c .if1 .taken), lt-ltb _ _ (c .if1 .taken))
+returns c = simp (← (c .before .count-of .ensures), lt-ltb _ _ (c .if1 .taken))
 
 address-of-requires : tie.Need-address-of-requires
 address-of-requires c κs = search needs
@@ -23,7 +23,7 @@ add-result c = search needs
 
 returns-2 : tie.Need-returns-2
 unfolding unplayable
-returns-2 c = simp (← (c .before .before .count-of .ensures), le-ltb _ _ (c .before .if1 .left), le-leb _ _ (c .before .if1 .left), ← (c .address-of .ensures))
+returns-2 c = simp (← (c .before .before .count-of .ensures), le-ltb _ _ (c .before .if1 .left), ← (c .address-of .ensures))
 
 pub unplayable-spec : {M : Type 1} → statement M
 unplayable-spec =

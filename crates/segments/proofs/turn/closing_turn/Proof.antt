@@ -1,6 +1,6 @@
 -- `segments::turn::closing_turn` meets its contract. Assumes nothing.
 use borrow.Author.Needs.{needs}
-use borrow.Author.Tests.{le-leb, le-ltb, lt-leb, lt-ltb}
+use borrow.Author.Tests.{le-leb, lt-leb}
 use Rattle.segments.specs.Turn.{closingTurn}
 use Rattle.segments.proofs.turn.closing_turn.Statement.{statement}
 use Rattle.segments.proofs.turn.closing_turn.Tie as tie
@@ -16,14 +16,14 @@ stopped-requires c κs = search needs
 
 returns : tie.Need-returns
 unfolding closingTurn
-returns c = simp (← (c .before .before .before .before .closing-segment .ensures), ← (c .before .before .before .less .ensures), le-ltb _ _ (c .before .if1 .taken), le-leb _ _ (c .before .if1 .taken), ← (c .stopped .ensures))
+returns c = simp (← (c .before .before .before .before .closing-segment .ensures), ← (c .before .before .before .less .ensures), le-leb _ _ (c .before .if1 .taken), ← (c .stopped .ensures))
 
 onward-requires : tie.Need-onward-requires
 onward-requires c κs = search needs
 
 returns-2 : tie.Need-returns-2
 unfolding closingTurn
-returns-2 c = simp (← (c .before .before .before .before .closing-segment .ensures), ← (c .before .before .before .less .ensures), lt-leb _ _ (c .before .if1 .left), lt-ltb _ _ (c .before .if1 .left), ← (c .onward .ensures))
+returns-2 c = simp (← (c .before .before .before .before .closing-segment .ensures), ← (c .before .before .before .less .ensures), lt-leb _ _ (c .before .if1 .left), ← (c .onward .ensures))
 
 pub closing-turn-spec : {M : Type 1} → statement M
 closing-turn-spec =

@@ -2,7 +2,7 @@
 use borrow.Author.Needs.{needs}
 use mathlib.Core.Path.{sym, _∙_}
 use native.Mathlib.Omega.{arith}
-use borrow.Author.Tests.{le-leb, le-ltb, lt-leb, lt-ltb}
+use borrow.Author.Tests.{le-leb, lt-leb}
 use Rattle.segments.specs.Turn.{operationTurn}
 use Rattle.segments.proofs.Playable.{address-small}
 use Rattle.segments.proofs.turn.operation_turn.Statement.{statement}
@@ -50,7 +50,7 @@ stopped-requires c κs = search needs
 
 returns-2 : tie.Need-returns-2
 unfolding operationTurn
-returns-2 c = simp (← (c .before .before .before .before .before .before .before .before .before .unplayable .ensures), c .before .before .before .before .before .before .before .before .if1 .left, ← (c .before .before .before .before .before .before .before .address-of .ensures), ← (c .before .before .before .before .before .before .count-of .ensures), ← (c .before .before .before .before .before .less .ensures), ← (c .before .before .before .before .less2 .ensures), le-ltb _ _ (c .before .before .if2 .taken), le-leb _ _ (c .before .before .if2 .taken), ← (c .before .segment-of .ensures), ← (c .stopped .ensures))
+returns-2 c = simp (← (c .before .before .before .before .before .before .before .before .before .unplayable .ensures), c .before .before .before .before .before .before .before .before .if1 .left, ← (c .before .before .before .before .before .before .before .address-of .ensures), ← (c .before .before .before .before .before .before .count-of .ensures), ← (c .before .before .before .before .before .less .ensures), ← (c .before .before .before .before .less2 .ensures), le-leb _ _ (c .before .before .if2 .taken), ← (c .before .segment-of .ensures), ← (c .stopped .ensures))
 
 segment-of-requires-2 : tie.Need-segment-of-requires-2
 segment-of-requires-2 c κs = search needs
@@ -60,7 +60,7 @@ onward-requires c κs = search needs
 
 returns-3 : tie.Need-returns-3
 unfolding operationTurn
-returns-3 c = simp (← (c .before .before .before .before .before .before .before .before .before .unplayable .ensures), c .before .before .before .before .before .before .before .before .if1 .left, ← (c .before .before .before .before .before .before .before .address-of .ensures), ← (c .before .before .before .before .before .before .count-of .ensures), ← (c .before .before .before .before .before .less .ensures), ← (c .before .before .before .before .less2 .ensures), lt-leb _ _ (c .before .before .if2 .left), lt-ltb _ _ (c .before .before .if2 .left), ← (c .before .segment-of2 .ensures), ← (c .onward .ensures))
+returns-3 c = simp (← (c .before .before .before .before .before .before .before .before .before .unplayable .ensures), c .before .before .before .before .before .before .before .before .if1 .left, ← (c .before .before .before .before .before .before .before .address-of .ensures), ← (c .before .before .before .before .before .before .count-of .ensures), ← (c .before .before .before .before .before .less .ensures), ← (c .before .before .before .before .less2 .ensures), lt-leb _ _ (c .before .before .if2 .left), ← (c .before .segment-of2 .ensures), ← (c .onward .ensures))
 
 pub operation-turn-spec : {M : Type 1} → statement M
 operation-turn-spec =

@@ -1,7 +1,7 @@
--- `segments::begin::part_place` meets its contract. Assumes nothing.
+-- `begin::part_place` meets its contract. Assumes nothing.
 use borrow.Author.Needs.{needs}
-use Rattle.segments.proofs.begin.part_place.Statement.{statement}
-use Rattle.segments.proofs.begin.part_place.Tie as tie
+use Rattle.begin.proofs.part_place.Statement.{statement}
+use Rattle.begin.proofs.part_place.Tie as tie
 
 operations-left-requires : tie.Need-operations-left-requires
 operations-left-requires c κs = search needs
@@ -34,7 +34,7 @@ closing-from-requires : tie.Need-closing-from-requires
 closing-from-requires c κs = search needs
 
 returns : tie.Need-returns
-returns c = simp (← (c .before .before .before .operations-left .ensures), c .before .enum-told .given .1, ← (c .between-place .ensures))
+returns c = simp (c .before .enum-told .given .1, ← (c .between-place .ensures))
 
 returns-2 : tie.Need-returns-2
 returns-2 c = simp (← (c .before .before .before .operations-left .ensures), c .before .enum-told2 .given .1, ← (c .opening-place .ensures))
@@ -43,7 +43,7 @@ returns-3 : tie.Need-returns-3
 returns-3 c = simp (← (c .before .before .before .operations-left .ensures), c .before .enum-told3 .given .1, ← (c .frame-place .ensures))
 
 returns-4 : tie.Need-returns-4
-returns-4 c = simp (← (c .before .before .before .operations-left .ensures), c .before .enum-told4 .given .1, ← (c .closing-from .ensures))
+returns-4 c = simp (c .before .enum-told4 .given .1, ← (c .closing-from .ensures))
 
 pub part-place-spec : {M : Type 1} → statement M
 part-place-spec =

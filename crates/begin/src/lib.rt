@@ -1,17 +1,17 @@
 // Where the records of a call begin.
-use crate::place::Place;
-use crate::place::less;
 use big_endian::read_u16;
 use format::Header;
 use format::Part;
 use format::Progress;
 use format::StreamPlayer;
+use segments::Place;
+use segments::less;
 ghost use mathlib.Core.Path.{_≡_};
 ghost use lib.Dec.{ltb};
 ghost use lib.ListN.{length};
 ghost use Prim.Native.Nat.{_+_, _<_};
 ghost use Rattle.format.specs.Player.{operationsLeft};
-ghost use Rattle.segments.specs.Begin.{nowhere, closingCount, closingFrom, framePlace, frameAt, openingPlace, betweenPlace, partPlace, firstPlace};
+ghost use Rattle.begin.specs.Begin.{nowhere, closingCount, closingFrom, framePlace, frameAt, openingPlace, betweenPlace, partPlace, firstPlace};
 
 // The operations of a part that are left.
 fn operations_left(progress: Progress) -> u32

@@ -1,9 +1,9 @@
--- `segments::begin::between_place` meets its contract. Assumes nothing.
+-- `begin::between_place` meets its contract. Assumes nothing.
 use borrow.Author.Needs.{needs}
-use borrow.Author.Tests.{le-leb, le-ltb, lt-leb, lt-ltb}
-use Rattle.segments.specs.Begin.{betweenPlace}
-use Rattle.segments.proofs.begin.between_place.Statement.{statement}
-use Rattle.segments.proofs.begin.between_place.Tie as tie
+use borrow.Author.Tests.{le-ltb, lt-ltb}
+use Rattle.begin.specs.Begin.{betweenPlace}
+use Rattle.begin.proofs.between_place.Statement.{statement}
+use Rattle.begin.proofs.between_place.Tie as tie
 
 cast-opening-place : tie.Need-cast-opening-place
 cast-opening-place c = search needs
@@ -20,21 +20,21 @@ frame-at-requires c κs = search needs
 
 returns-2 : tie.Need-returns-2
 unfolding betweenPlace
-returns-2 c = simp (c .before .before .before .before .if1 .left, lt-leb _ _ (c .before .if2 .taken), lt-ltb _ _ (c .before .if2 .taken), ← (c .frame-at .ensures .0))
+returns-2 c = simp (c .before .before .before .before .if1 .left, lt-ltb _ _ (c .before .if2 .taken), ← (c .frame-at .ensures .0))
 
 frame-at-requires-2 : tie.Need-frame-at-requires-2
 frame-at-requires-2 c κs = search needs
 
 returns-3 : tie.Need-returns-3
 unfolding betweenPlace
-returns-3 c = simp (c .before .before .before .before .before .if1 .left, le-ltb _ _ (c .before .before .if2 .left), le-leb _ _ (c .before .before .if2 .left), c .before .if3 .taken, ← (c .frame-at2 .ensures .0))
+returns-3 c = simp (c .before .before .before .before .before .if1 .left, le-ltb _ _ (c .before .before .if2 .left), c .before .if3 .taken, ← (c .frame-at2 .ensures .0))
 
 closing-from-requires : tie.Need-closing-from-requires
 closing-from-requires c κs = search needs
 
 returns-4 : tie.Need-returns-4
 unfolding betweenPlace
-returns-4 c = simp (c .before .before .before .before .before .if1 .left, le-ltb _ _ (c .before .before .if2 .left), le-leb _ _ (c .before .before .if2 .left), c .before .if3 .left, ← (c .closing-from .ensures))
+returns-4 c = simp (c .before .before .before .before .before .if1 .left, le-ltb _ _ (c .before .before .if2 .left), c .before .if3 .left, ← (c .closing-from .ensures))
 
 pub between-place-spec : {M : Type 1} → statement M
 between-place-spec =

@@ -1,7 +1,7 @@
--- `segments::begin::closing_from` meets its contract. Assumes nothing.
+-- `begin::closing_from` meets its contract. Assumes nothing.
 use borrow.Author.Needs.{needs}
-use Rattle.segments.proofs.begin.closing_from.Statement.{statement}
-use Rattle.segments.proofs.begin.closing_from.Tie as tie
+use Rattle.begin.proofs.closing_from.Statement.{statement}
+use Rattle.begin.proofs.closing_from.Tie as tie
 
 closing-count-requires : tie.Need-closing-count-requires
 closing-count-requires c κs = search needs

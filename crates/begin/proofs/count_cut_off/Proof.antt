@@ -1,12 +1,12 @@
--- `segments::begin::count_cut_off` meets its contract. Assumes nothing.
+-- `begin::count_cut_off` meets its contract. Assumes nothing.
 use borrow.Author.Needs.{needs}
 use native.Mathlib.Omega.{arith}
 use Prim.Native.Nat.{_+_}
 use mathlib.Core.Path.{sym}
 use borrow.Author.Tests.{lt-ltb, le-ltb}
 use lib.ListN.{length}
-use Rattle.segments.proofs.begin.count_cut_off.Statement.{statement}
-use Rattle.segments.proofs.begin.count_cut_off.Tie as tie
+use Rattle.begin.proofs.count_cut_off.Statement.{statement}
+use Rattle.begin.proofs.count_cut_off.Tie as tie
 
 returns : tie.Need-returns
 returns c = sym (lt-ltb (length (c .before .args .file .now)) (c .before .args .at + 2) (omega arith))

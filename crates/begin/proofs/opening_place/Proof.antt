@@ -1,9 +1,9 @@
--- `segments::begin::opening_place` meets its contract. Assumes nothing.
+-- `begin::opening_place` meets its contract. Assumes nothing.
 use borrow.Author.Needs.{needs}
 use borrow.Author.Tests.{eq-eqb, ne-eqb}
-use Rattle.segments.specs.Begin.{openingPlace}
-use Rattle.segments.proofs.begin.opening_place.Statement.{statement}
-use Rattle.segments.proofs.begin.opening_place.Tie as tie
+use Rattle.begin.specs.Begin.{openingPlace}
+use Rattle.begin.proofs.opening_place.Statement.{statement}
+use Rattle.begin.proofs.opening_place.Tie as tie
 
 frame-at-requires : tie.Need-frame-at-requires
 frame-at-requires c κs = search needs

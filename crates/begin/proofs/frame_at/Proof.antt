@@ -1,13 +1,13 @@
--- `segments::begin::frame_at` meets its contract. Assumes nothing.
+-- `begin::frame_at` meets its contract. Assumes nothing.
 use mathlib.Core.Path.{sym, _∙_}
 use Prim.Native.Nat.{_+_}
 use lib.ListN.{length}
 use native.Mathlib.Omega.{arith}
 use borrow.Author.Tests.{ltb-false}
 use borrow.Author.Needs.{needs}
-use Rattle.segments.specs.Begin.{frameAt}
-use Rattle.segments.proofs.begin.frame_at.Statement.{statement}
-use Rattle.segments.proofs.begin.frame_at.Tie as tie
+use Rattle.begin.specs.Begin.{frameAt}
+use Rattle.begin.proofs.frame_at.Statement.{statement}
+use Rattle.begin.proofs.frame_at.Tie as tie
 
 count-cut-off-requires : tie.Need-count-cut-off-requires
 count-cut-off-requires c κs = search needs

@@ -1,9 +1,9 @@
--- `segments::begin::first_place` meets its contract. Assumes nothing.
+-- `begin::first_place` meets its contract. Assumes nothing.
 use borrow.Author.Needs.{needs}
 use borrow.Author.Tests.{eq-eqb, ne-eqb}
-use Rattle.segments.specs.Begin.{firstPlace}
-use Rattle.segments.proofs.begin.first_place.Statement.{statement}
-use Rattle.segments.proofs.begin.first_place.Tie as tie
+use Rattle.begin.specs.Begin.{firstPlace}
+use Rattle.begin.proofs.first_place.Statement.{statement}
+use Rattle.begin.proofs.first_place.Tie as tie
 
 nowhere-requires : tie.Need-nowhere-requires
 nowhere-requires c κs = search needs
