@@ -1,3 +1,4 @@
 pub mod Lists
 pub mod Segments
 pub mod Body
+pub mod Again

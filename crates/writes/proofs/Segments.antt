@@ -4,7 +4,7 @@ use mathlib.Core.Bool.{Bool, true, false, cond, _&&_, _||_, false≢true}
 use mathlib.Core.List.{List, [], _∷_}
 use mathlib.Core.Path.{_≡_, refl, sym, ap, _∙_}
 use native.Mathlib.Omega.{arith}
-use borrow.Author.Tests.{ltb-false}
+use borrow.Author.Tests.{ltb-false, le-ltb}
 use lib.Dec.{ltb}
 use lib.ListN.{length, getD, set, drop, replicate, length-take, length-drop, length-replicate, getD-replicate}
 use lib.Seq.{paste, length-paste, getD-take, getD-drop}
@@ -45,6 +45,25 @@ module _ (room at size : ℕ) (segment : Segment) where
       go false e some = all-fit e
       go true e some = absurd (omega arith)
 
+  -- all are stored where all fit
+  pub fitting-all : (0 < segment .count → Fitting room at size segment (segment .count)) → fitting room at size segment ≡ segment .count
+  unfolding fitting tooLong
+  fitting-all fits = go (segment .count) refl
+    where
+      go : (n : ℕ) → segment .count ≡ n → fitting room at size segment ≡ segment .count
+      go zero none = both (tooLong room at size segment)
+        where
+          both : (b : Bool) → cond b 0 (segment .count) ≡ segment .count
+          both true = sym none
+          both false = refl
+      go (suc n) some =
+          let fit = fits (omega (arith, some)) in
+          rw (le-ltb _ _ (fit .inside), le-ltb _ _ (fit .addresses)) (ap (λ (b : Bool). cond b 0 (segment .count)) (last (segment .copied) refl (fit .bytes)))
+        where
+          last : (copied : Bool) → segment .copied ≡ copied → (segment .copied ≡ true → segment .from + segment .count ≤ size) → (copied && ltb size (segment .from + segment .count)) ≡ false
+          last false e bytes = refl
+          last true e bytes = le-ltb _ _ (bytes e)
+
 part-long : (file : List ℕ) (from n : ℕ) → (0 < n → from + n ≤ length file) → length (part file from n) ≡ n
 part-long file from zero within = refl
 part-long file from (suc n) within =
@@ -69,6 +88,16 @@ value-at file segment n i less = go (segment .copied)
     go true = getD-take n (drop (segment .from) file) i 0 less ∙ getD-drop (segment .from) file i 0
     go false = getD-replicate n i (segment .value) 0 less
 
+-- so many records, where their bytes are in the file
+module _ (file : List ℕ) (segment : Segment) (n : ℕ) (within : 0 < n → segment .copied ≡ true → segment .from + n ≤ length file) where
+  pub records-count : length (recordsOf file segment n) ≡ n
+  records-count = length-upward (segment .target) (segment .address) (valuesOf file segment n) ∙ values-long file segment n within
+
+  pub record-of : (i : ℕ) (d : WriteRecord) → i < n → getD (recordsOf file segment n) i d ≡ write (segment .target) (segment .address + i) (valueAt file segment i)
+  record-of i d less =
+      let enough : i < length (valuesOf file segment n) = rw (values-long file segment n within) less in
+      upward-at (segment .target) (segment .address) (valuesOf file segment n) i d enough ∙ ap (write (segment .target) (segment .address + i)) (value-at file segment n i less)
+
 module _ (file : List ℕ) (segment : Segment) (at : ℕ) (run : List WriteRecord) where
   abbrev n : ℕ
   n = fitting (length run) at (length file) segment
@@ -77,12 +106,10 @@ module _ (file : List ℕ) (segment : Segment) (at : ℕ) (run : List WriteRecor
   bytes-fit some copied = fitting-fits (length run) at (length file) segment some .bytes copied
 
   pub records-long : length (recordsOf file segment n) ≡ n
-  records-long = length-upward (segment .target) (segment .address) (valuesOf file segment n) ∙ values-long file segment n bytes-fit
+  records-long = records-count file segment n bytes-fit
 
   pub record-at : (i : ℕ) (d : WriteRecord) → i < n → getD (recordsOf file segment n) i d ≡ write (segment .target) (segment .address + i) (valueAt file segment i)
-  record-at i d less =
-      let enough : i < length (valuesOf file segment n) = rw (values-long file segment n bytes-fit) less in
-      upward-at (segment .target) (segment .address) (valuesOf file segment n) i d enough ∙ ap (write (segment .target) (segment .address + i)) (value-at file segment n i less)
+  record-at i d less = record-of file segment n bytes-fit i d less
 
   -- THE RUN AFTER SOME TURNS
 
@@ -102,6 +129,11 @@ module _ (file : List ℕ) (segment : Segment) (at : ℕ) (run : List WriteRecor
   pub stored-is : pasted n ≡ segmentStored file segment at run
   unfolding segmentStored
   stored-is = paste-all run at (recordsOf file segment n) n (sym records-long)
+
+  -- the run with all of the segment, where all of it fits
+  pub stored-all : (0 < segment .count → Fitting (length run) at (length file) segment (segment .count)) → segmentStored file segment at run ≡ inserted at (recordsOf file segment (segment .count)) run
+  unfolding segmentStored
+  stored-all fits = rw (fitting-all (length run) at (length file) segment fits)
 
   -- the run keeps its length
   pub stored-long : length (segmentStored file segment at run) ≡ length run

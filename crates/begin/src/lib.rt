@@ -1,0 +1,186 @@
+// Where the records of a call begin.
+use big_endian::read_u16;
+use format::Header;
+use format::Part;
+use format::Progress;
+use format::StreamPlayer;
+use segments::Place;
+use segments::less;
+ghost use mathlib.Core.Path.{_≡_};
+ghost use lib.Dec.{ltb};
+ghost use lib.ListN.{length};
+ghost use Prim.Native.Nat.{_+_, _<_};
+ghost use Rattle.format.specs.Player.{operationsLeft};
+ghost use Rattle.begin.specs.Begin.{nowhere, closingCount, closingFrom, framePlace, frameAt, openingPlace, betweenPlace, partPlace, firstPlace};
+
+// The operations of a part that are left.
+fn operations_left(progress: Progress) -> u32
+    ensures { λ r. ⌜ r ≡ operationsLeft progress ⌝ }
+{
+    if progress.operation_count < progress.operation_index {
+        return 0;
+    }
+    progress.operation_count - progress.operation_index
+}
+
+// Whether a frame's count lacks bytes before the file's end.
+fn count_cut_off(file: &[u8], at: usize) -> bool
+    ensures { λ r. ⌜ r ≡ ltb (length (now (file .entry))) (at + 2) ⌝ }
+{
+    if file.len() < 2 {
+        return true;
+    }
+    if file.len() - 2 < at {
+        return true;
+    }
+    false
+}
+
+// No record is taken.
+fn nowhere(total: usize) -> Place
+    ensures { λ r. ⌜ r ≡ nowhere total ⌝ }
+{
+    Place {
+        closing: false,
+        left: 0,
+        opening: 0,
+        after: 0,
+        cursor: 0,
+        done: 0,
+        total: total,
+        room: total,
+    }
+}
+
+// How many closing writes there are.
+fn closing_count(uses_si22: bool) -> usize
+    ensures { λ r. ⌜ r ≡ closingCount «uses_si22» ⌝ }
+{
+    if uses_si22 {
+        return 33;
+    }
+    32
+}
+
+// The closing writes behind so many.
+fn closing_from(state: StreamPlayer, done: u32, total: usize) -> Place
+    ensures { λ r. ⌜ r ≡ closingFrom state done total ⌝ }
+{
+    let count = closing_count(state.uses_si22);
+    Place {
+        closing: true,
+        left: less(count, done as usize),
+        opening: 0,
+        after: 0,
+        cursor: 0,
+        done: 0,
+        total: total,
+        room: total,
+    }
+}
+
+// So many operations of a frame from a cursor on.
+fn frame_place(left: usize, cursor: usize, done: u32, total: usize) -> Place
+    ensures { λ r. ⌜ r ≡ framePlace left cursor done total ⌝ }
+{
+    Place {
+        closing: false,
+        left: left,
+        opening: 0,
+        after: cursor,
+        cursor: cursor,
+        done: done,
+        total: total,
+        room: total,
+    }
+}
+
+// The frame whose count stands at a cursor.
+fn frame_at(file: &[u8], cursor: usize, total: usize) -> Place
+    ensures { λ r. ⌜ (r ≡ frameAt (now (file .entry)) cursor total) × (r .left < 65536) ⌝ }
+{
+    if count_cut_off(file, cursor) {
+        return nowhere(total);
+    }
+    frame_place(read_u16(file, cursor) as usize, cursor + 2, 0, total)
+}
+
+// So many operations of the opening from a cursor on, and then the first frame.
+fn opening_place(
+    file: &[u8],
+    header: Header,
+    left: u32,
+    cursor: usize,
+    done: u32,
+    total: usize,
+) -> Place
+    ensures { λ r. ⌜ r ≡ openingPlace (now (file .entry)) header left cursor done total ⌝ }
+{
+    let frame = frame_at(file, header.frame_start, total);
+    if left == 0 {
+        return frame;
+    }
+    Place {
+        closing: false,
+        left: left as usize + frame.left,
+        opening: left as usize,
+        after: frame.cursor,
+        cursor: cursor,
+        done: done,
+        total: total,
+        room: total,
+    }
+}
+
+// The first vsync begins with the opening; after the last frame a repeating file begins with its first frame again, and another plays
+// the closing writes.
+fn between_place(file: &[u8], state: StreamPlayer, total: usize) -> Place
+    ensures { λ r. ⌜ r ≡ betweenPlace (now (file .entry)) state total ⌝ }
+{
+    let header = state.header;
+    let progress = state.progress;
+    if !progress.initialized {
+        return opening_place(
+            file,
+            header,
+            header.initial_count,
+            header.initial_start as usize,
+            0,
+            total,
+        );
+    }
+    if progress.frame_index < header.frame_count {
+        return frame_at(file, progress.cursor, total);
+    }
+    if header.repeat {
+        return frame_at(file, header.frame_start, total);
+    }
+    closing_from(state, 0, total)
+}
+
+// The part that is under way goes on.
+fn part_place(file: &[u8], state: StreamPlayer, total: usize) -> Place
+    ensures { λ r. ⌜ r ≡ partPlace (now (file .entry)) state total (state .progress .part) ⌝ }
+{
+    let header = state.header;
+    let progress = state.progress;
+    let part = progress.part;
+    let left = operations_left(progress);
+    let done = progress.write_index;
+    match part {
+        Part::Between => between_place(file, state, total),
+        Part::Opening => opening_place(file, header, left, progress.cursor, done, total),
+        Part::Frame => frame_place(left as usize, progress.cursor, done, total),
+        Part::Closing => closing_from(state, done, total),
+    }
+}
+
+// The place before the first record of a call that takes so many and has a run of `total`.
+pub fn first_place(file: &[u8], state: StreamPlayer, count: usize, total: usize) -> Place
+    ensures { λ r. ⌜ r ≡ firstPlace (now (file .entry)) state count total ⌝ }
+{
+    if count == 0 {
+        return nowhere(total);
+    }
+    part_place(file, state, total)
+}

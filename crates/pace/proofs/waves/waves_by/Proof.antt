@@ -1,0 +1,57 @@
+-- `pace::waves::waves_by` meets its contract. Assumes nothing.
+use borrow.Author.Needs.{needs}
+use borrow.Author.Tests.{eq-eqb, ne-eqb}
+use Rattle.format.specs.Player.{wavesBy}
+use mathlib.Core.Path.{ap, sym, _∙_}
+use Rattle.format.specs.declared.pool.Pool.{Pool}
+use Rattle.pace.proofs.waves.waves_by.Statement.{statement}
+use Rattle.pace.proofs.waves.waves_by.Tie as tie
+
+enum-told : tie.Need-enum-told
+enum-told c = search needs
+
+enum-told-2 : tie.Need-enum-told-2
+enum-told-2 c = search needs
+
+enum-known-operation : tie.Need-enum-known-operation
+enum-known-operation c = search needs
+
+cast-read-pool : tie.Need-cast-read-pool
+cast-read-pool c = search needs
+
+read-pool-requires : tie.Need-read-pool-requires
+read-pool-requires c κs = search needs
+
+waves-with-requires : tie.Need-waves-with-requires
+waves-with-requires c κs = search needs
+
+returns : tie.Need-returns
+unfolding wavesBy
+returns c = rw (c .before .before .before .before .before .operation .given .1, eq-eqb _ _ (ap (λ (pool : Pool). pool .kind) (sym (c .before .before .before .read-pool .ensures)) ∙ c .before .if1 .taken)) (c .waves-with .ensures)
+
+returns-2 : tie.Need-returns-2
+unfolding wavesBy
+returns-2 c = rw (c .enum-told .given .1)
+
+returns-3 : tie.Need-returns-3
+unfolding wavesBy
+returns-3 c = rw (c .enum-told2 .given .1)
+
+returns-4 : tie.Need-returns-4
+unfolding wavesBy
+returns-4 c = rw (c .before .before .before .before .operation .given .1, ne-eqb _ _ (λ e. c .if1 .left (ap (λ (pool : Pool). pool .kind) (c .before .before .read-pool .ensures) ∙ e)))
+
+pub waves-by-spec : {M : Type 1} → statement M
+waves-by-spec =
+    tie.close
+    (tie.spec
+    enum-told
+    enum-told-2
+    enum-known-operation
+    cast-read-pool
+    read-pool-requires
+    waves-with-requires
+    returns
+    returns-2
+    returns-3
+    returns-4)

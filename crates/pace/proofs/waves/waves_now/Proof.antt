@@ -1,0 +1,22 @@
+-- `pace::waves::waves_now` meets its contract. Assumes nothing.
+use borrow.Author.Needs.{needs}
+use borrow.Author.Tests.{eq-eqb, ne-eqb}
+use Rattle.pace.proofs.waves.waves_now.Statement.{statement}
+use Rattle.pace.proofs.waves.waves_now.Tie as tie
+
+waves-by-requires : tie.Need-waves-by-requires
+waves-by-requires c κs = search needs
+
+returns : tie.Need-returns
+returns c = rw (eq-eqb _ _ (c .before .if1 .taken)) (c .waves-by .ensures)
+
+returns-2 : tie.Need-returns-2
+returns-2 c = rw (ne-eqb _ _ (c .if1 .left))
+
+pub waves-now-spec : {M : Type 1} → statement M
+waves-now-spec =
+    tie.close
+    (tie.spec
+    waves-by-requires
+    returns
+    returns-2)

@@ -1,0 +1,54 @@
+-- Laws of the answer of a call: which number a refusal has does not matter.
+use Prim.Native.Nat.{ℕ, _+_, _-_, min}
+use mathlib.Core.Bool.{Bool, true, false, cond}
+use mathlib.Core.List.{List}
+use mathlib.Core.Path.{_≡_, refl, ap, _∙_}
+use lib.Dec.{leb, ltb}
+use Rattle.format.specs.declared.player.Progress.{Progress}
+use Rattle.format.specs.declared.player.StreamPlayer.{StreamPlayer}
+use Rattle.format.specs.Checked.{Checked, ok, refused, refuse, _>>=_, _>>_}
+use Rattle.format.specs.Pace.{Plan, planFrame, planClosing}
+use Rattle.format.specs.Player.{frameBegun, closingAt, as25}
+use Rattle.format.specs.State.{moved}
+use Rattle.plan.specs.declared.call.CallPlan.{CallPlan}
+use Rattle.plan.specs.declared.taken.Taken.{Taken}
+use Rattle.plan.specs.Told.{noPlan, planTold, nothing, takenTold, planBegun, behind, closingTaken}
+
+pub told-25 : (state : StreamPlayer) (answer : Checked Plan) → planTold state (as25 answer) ≡ planTold state answer
+told-25 state (ok plan) = refl
+told-25 state (refused number place) = refl
+
+pub told-bind : {A : Type 0} (state : StreamPlayer) (first : Checked A) (rest : A → Checked Plan) → planTold state (first >>= rest) ≡ planTold state (as25 first >>= rest)
+told-bind state (ok a) rest = refl
+told-bind state (refused number place) rest = refl
+
+-- an answer with so many writes in front
+abbrev later : (count : ℕ) → CallPlan → CallPlan
+later count answer =
+    cond (answer .refused) answer (record { refused = false; count = count + answer .count; complete = answer .complete; next = answer .next })
+
+later-told : (state : StreamPlayer) (count : ℕ) (t : Taken) (b : Bool) → t .refused ≡ b → takenTold state (behind count t) ≡ later count (takenTold state t)
+later-told state count t true e = rw e
+later-told state count t false e = rw e
+
+-- a frame that begins behind so many writes
+pub told-behind : (state : StreamPlayer) (file : List ℕ) (count room cursor : ℕ) (p : Progress) (t : Taken) → takenTold state t ≡ planTold state (planBegun state file room cursor 0 p) → takenTold state (behind count t) ≡ planTold state (frameBegun file cursor 0 p >>= λ (frame : Progress). planFrame state file room frame >>= λ (more : Plan). ok (record { count = count + more .count; complete = more .complete; next = more .next }))
+told-behind state file count room cursor p t e =
+    later-told state count t (t .refused) refl ∙ ap (later count) e ∙ begun (frameBegun file cursor 0 p)
+  where
+    joined : (more : Checked Plan) → later count (planTold state more) ≡ planTold state (more >>= λ (m : Plan). ok (record { count = count + m .count; complete = m .complete; next = m .next }))
+    joined (ok plan) = refl
+    joined (refused number place) = refl
+
+    begun : (frame : Checked Progress) → later count (planTold state (frame >>= planFrame state file room)) ≡ planTold state (frame >>= λ (q : Progress). planFrame state file room q >>= λ (more : Plan). ok (record { count = count + more .count; complete = more .complete; next = more .next }))
+    begun (refused number place) = refl
+    begun (ok q) = joined (planFrame state file room q)
+
+-- the closing writes
+pub told-closing : (state : StreamPlayer) (room : ℕ) (p : Progress) → takenTold state (closingTaken (state .«uses_si22») room p) ≡ planTold state (planClosing state room p)
+unfolding planClosing
+told-closing state room p = go (ltb (cond (state .«uses_si22») 33 32) (p .«write_index»)) _ _ _
+  where
+    go : (wrong : Bool) (count : ℕ) (done : Bool) (after : Progress) → takenTold state (cond wrong (nothing p) (record { refused = false; count = count; complete = done; progress = after })) ≡ planTold state (refuse 25 0 wrong >> ok (record { count = count; complete = done; next = moved state after }))
+    go true count done after = refl
+    go false count done after = refl

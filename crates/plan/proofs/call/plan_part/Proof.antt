@@ -1,0 +1,67 @@
+-- `plan::call::plan_part` meets its contract. Assumes nothing.
+use borrow.Author.Needs.{needs}
+use Rattle.plan.proofs.Begins.{goes-between, goes-opening, goes-frame, goes-closing}
+use Rattle.plan.proofs.Telling.{told-closing}
+use Rattle.plan.proofs.call.plan_part.Statement.{statement}
+use Rattle.plan.proofs.call.plan_part.Tie as tie
+
+enum-told : tie.Need-enum-told
+enum-told c = search needs
+
+plan-between-requires : tie.Need-plan-between-requires
+plan-between-requires c κs = search needs
+
+enum-told-2 : tie.Need-enum-told-2
+enum-told-2 c = search needs
+
+plan-opening-requires : tie.Need-plan-opening-requires
+plan-opening-requires c κs = search needs
+
+enum-told-3 : tie.Need-enum-told-3
+enum-told-3 c = search needs
+
+plan-frame-requires : tie.Need-plan-frame-requires
+plan-frame-requires c κs = search needs
+
+enum-told-4 : tie.Need-enum-told-4
+enum-told-4 c = search needs
+
+plan-closing-requires : tie.Need-plan-closing-requires
+plan-closing-requires c κs = search needs
+
+returns : tie.Need-returns
+returns c =
+    let a = c .before .before .before .before .args in
+    rw (goes-between (a .state) (a .file .now) (a .room) (a .progress) (a .progress .part) (c .before .enum-told .given .1)) (c .plan-between .ensures)
+
+returns-2 : tie.Need-returns-2
+returns-2 c =
+    let a = c .before .before .before .before .args in
+    rw (goes-opening (a .state) (a .file .now) (a .room) (a .progress) (a .progress .part) (c .before .enum-told2 .given .1)) (c .plan-opening .ensures)
+
+returns-3 : tie.Need-returns-3
+returns-3 c =
+    let a = c .before .before .before .before .args in
+    rw (goes-frame (a .state) (a .file .now) (a .room) (a .progress) (a .progress .part) (c .before .enum-told3 .given .1)) (c .plan-frame .ensures .0)
+
+returns-4 : tie.Need-returns-4
+returns-4 c =
+    let a = c .before .before .before .before .args in
+    rw (goes-closing (a .state) (a .file .now) (a .room) (a .progress) (a .progress .part) (c .before .enum-told4 .given .1), c .plan-closing .ensures) (told-closing (a .state) (a .room) (a .progress))
+
+pub plan-part-spec : {M : Type 1} → statement M
+plan-part-spec =
+    tie.close
+    (tie.spec
+    enum-told
+    plan-between-requires
+    enum-told-2
+    plan-opening-requires
+    enum-told-3
+    plan-frame-requires
+    enum-told-4
+    plan-closing-requires
+    returns
+    returns-2
+    returns-3
+    returns-4)

@@ -1,0 +1,63 @@
+-- `plan::opening::plan_opening` meets its contract. Assumes nothing.
+use borrow.Author.Needs.{needs}
+use borrow.Author.Tests.{eq-eqb, ne-eqb}
+use Prim.Native.Nat.{_-_}
+use Rattle.format.specs.Pace.{planOpening}
+use Rattle.plan.proofs.Telling.{told-bind, told-behind}
+use Rattle.plan.proofs.opening.plan_opening.Statement.{statement}
+use Rattle.plan.proofs.opening.plan_opening.Tie as tie
+
+opening-limit-requires : tie.Need-opening-limit-requires
+opening-limit-requires c κs = search needs
+
+pace-requires : tie.Need-pace-requires
+pace-requires c κs = search needs
+
+refused-part-requires : tie.Need-refused-part-requires
+refused-part-requires c κs = search needs
+
+returns : tie.Need-returns
+unfolding planOpening
+returns c = rw (told-bind, ← (c .before .before .before .opening-limit .ensures), ← (c .before .before .pace .ensures .0), c .before .if1 .taken, c .refused-part .ensures)
+
+sub-count : tie.Need-sub-count
+sub-count c = search needs
+
+operations-left-requires : tie.Need-operations-left-requires
+operations-left-requires c κs = search needs
+
+returns-2 : tie.Need-returns-2
+unfolding planOpening
+returns-2 c =
+    let left = c .before in
+    let pace = left .before .before .before in
+    rw (told-bind, ← (pace .before .opening-limit .ensures), ← (pace .pace .ensures .0), left .before .before .if1 .left, ← (left .operations-left .ensures .0), ne-eqb _ _ (c .if2 .taken))
+
+begin-frame-requires : tie.Need-begin-frame-requires
+begin-frame-requires c κs = search needs
+
+behind-requires : tie.Need-behind-requires
+behind-requires c κs = search needs
+
+returns-3 : tie.Need-returns-3
+unfolding planOpening
+returns-3 c =
+    let left = c .before .before .before in
+    let pace = left .before .before .before in
+    let a = pace .before .before .before .before .args in
+    rw (told-bind, ← (pace .before .opening-limit .ensures), ← (pace .pace .ensures .0), left .before .before .if1 .left, ← (left .operations-left .ensures .0), eq-eqb _ _ (c .before .before .if2 .left), c .behind .ensures) (told-behind (a .state) (a .file .now) (a .room - pace .pace .result .room) (pace .pace .result .room) (a .state .header .«frame_start») (pace .pace .result .progress) (c .before .begin-frame .result) (c .before .begin-frame .ensures .0))
+
+pub plan-opening-spec : {M : Type 1} → statement M
+plan-opening-spec =
+    tie.close
+    (tie.spec
+    opening-limit-requires
+    pace-requires
+    refused-part-requires
+    returns
+    sub-count
+    operations-left-requires
+    returns-2
+    begin-frame-requires
+    behind-requires
+    returns-3)

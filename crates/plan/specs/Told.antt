@@ -1,0 +1,61 @@
+-- What the answers of this crate say.
+use Prim.Native.Nat.{ℕ, _+_, _-_, min}
+use mathlib.Core.Bool.{Bool, true, false, cond}
+use mathlib.Core.List.{List}
+use lib.Dec.{leb, ltb}
+use Rattle.format.specs.declared.player.Part.{Part}
+use Rattle.format.specs.declared.player.Part.the-variants.{Between}
+use Rattle.format.specs.declared.player.Progress.{Progress}
+use Rattle.format.specs.declared.player.StreamPlayer.{StreamPlayer}
+use Rattle.format.specs.Checked.{Checked, ok, refused, _>>=_}
+use Rattle.format.specs.Pace.{Plan, planFrame, plan}
+use Rattle.format.specs.Player.{frameBegun, closingAt}
+use Rattle.format.specs.State.{moved}
+use Rattle.plan.specs.declared.call.CallPlan.{CallPlan}
+use Rattle.plan.specs.declared.taken.Taken.{Taken}
+
+-- THE ANSWER OF A CALL
+
+-- refusal 25: no write is taken, and the state stays
+abbrev pub noPlan : StreamPlayer → CallPlan
+noPlan state = record { refused = true; count = 0; complete = false; next = state }
+
+-- the answer to a plan of a state's call
+abbrev pub planTold : StreamPlayer → Checked Plan → CallPlan
+planTold state (ok plan) = record { refused = false; count = plan .count; complete = plan .complete; next = plan .next }
+planTold state (refused number place) = noPlan state
+
+-- WHAT IS TAKEN OF A PART
+
+abbrev pub nothing : Progress → Taken
+nothing p = record { refused = true; count = 0; complete = false; progress = p }
+
+-- the answer of a state to what was taken
+abbrev pub takenTold : StreamPlayer → Taken → CallPlan
+takenTold state t =
+    cond (t .refused) (noPlan state) (record { refused = false; count = t .count; complete = t .complete; next = moved state (t .progress) })
+
+-- behind so many writes
+abbrev pub behind : (count : ℕ) → Taken → Taken
+behind count t =
+    cond (t .refused) t (record { refused = false; count = count + t .count; complete = t .complete; progress = t .progress })
+
+-- of the closing writes
+abbrev pub closingTaken : (si22 : Bool) → (room : ℕ) → Progress → Taken
+closingTaken si22 room p =
+    cond (ltb (cond si22 33 32) (p .«write_index»)) (nothing p) (record { refused = false; count = min room (cond si22 33 32 - p .«write_index»); complete = leb (cond si22 33 32 - p .«write_index») room; progress = closingAt (p .«write_index» + min room (cond si22 33 32 - p .«write_index»)) (leb (cond si22 33 32 - p .«write_index») room) p })
+
+-- no operation of a part is done
+abbrev pub begun : Part → (cursor operations frame : ℕ) → (initialized : Bool) → Progress → Progress
+begun part cursor operations frame initialized p =
+    record { part = part; cursor = cursor; «operation_index» = 0; «operation_count» = operations; «write_index» = 0; «frame_index» = frame; initialized = initialized; finished = false; «wave_sources» = p .«wave_sources» }
+
+-- PLANS
+
+-- the plan of a call that begins a vsync
+abbrev pub planBetween : StreamPlayer → List ℕ → (room : ℕ) → Progress → Checked Plan
+planBetween state file room p = plan state file room p Between
+
+-- the plan of a call that begins a frame
+abbrev pub planBegun : StreamPlayer → List ℕ → (room cursor frame : ℕ) → Progress → Checked Plan
+planBegun state file room cursor frame p = frameBegun file cursor frame p >>= planFrame state file room

@@ -1,0 +1,75 @@
+// Whether a state belongs to a file.
+use format::Progress;
+use format::StreamPlayer;
+ghost use mathlib.Core.Path.{_≡_};
+ghost use mathlib.Core.Bool.{_||_};
+ghost use lib.Dec.{eqb, ltb};
+ghost use Rattle.format.specs.Checked.{refuse};
+ghost use Rattle.format.specs.Player.{belongs};
+
+// Whether the version or the card count is none of a file's.
+fn recorded_wrong(version: u8, cards: usize) -> bool
+    ensures { λ r. ⌜ r ≡ (eqb version 0 || ltb 4 version || ltb 8 cards) ⌝ }
+{
+    if version == 0 {
+        return true;
+    }
+    if 4 < version {
+        return true;
+    }
+    8 < cards
+}
+
+// Whether a place passes the file's end.
+fn place_past(length: usize, cursor: usize, opening: u32, frames: usize, directory: u32) -> bool
+    ensures { λ r. ⌜ r ≡ (ltb length cursor || ltb length opening || ltb length frames || ltb length directory) ⌝ }
+{
+    if length < cursor {
+        return true;
+    }
+    if length < opening as usize {
+        return true;
+    }
+    if length < frames {
+        return true;
+    }
+    length < directory as usize
+}
+
+// Whether a counter passes its count.
+fn counter_past(frames: u32, frame: u32, operations: u32, operation: u32) -> bool
+    ensures { λ r. ⌜ r ≡ (ltb frames frame || ltb operations operation) ⌝ }
+{
+    if frames < frame {
+        return true;
+    }
+    operations < operation
+}
+
+// Whether a state belongs to another file than the lent one.
+pub fn foreign(file: &[u8], state: StreamPlayer) -> bool
+    ensures { λ r. ⌜ refuse 25 0 r ≡ belongs state (now (file .entry)) ⌝ }
+{
+    let length = file.len();
+    if length != state.header.total_size as usize {
+        return true;
+    }
+    if recorded_wrong(state.header.version, state.cards.count) {
+        return true;
+    }
+    if place_past(
+        length,
+        state.progress.cursor,
+        state.header.initial_start,
+        state.header.frame_start,
+        state.header.directory_offset,
+    ) {
+        return true;
+    }
+    counter_past(
+        state.header.frame_count,
+        state.progress.frame_index,
+        state.progress.operation_count,
+        state.progress.operation_index,
+    )
+}

@@ -1,0 +1,110 @@
+// The plan of a call, by the part that is playing.
+use crate::belongs::foreign;
+use crate::closing::plan_closing;
+use crate::frame::begin_frame;
+use crate::frame::plan_frame;
+use crate::opening::plan_opening;
+use crate::progress::begun;
+use crate::taken::Taken;
+use format::Part;
+use format::Progress;
+use format::StreamPlayer;
+ghost use mathlib.Core.Path.{_≡_};
+ghost use Rattle.format.specs.Pace.{plan, planned};
+ghost use Rattle.plan.specs.Told.{noPlan, planTold, takenTold, planBetween};
+
+// A call's plan. A refused call takes no write, and its state stays.
+pub struct CallPlan {
+    pub refused: bool,
+    pub count: usize,
+    pub complete: bool,
+    pub next: StreamPlayer,
+}
+
+// Between vsyncs the next one begins: the opening, the next frame, frame 1 again, or the closing writes.
+fn plan_between(file: &[u8], state: StreamPlayer, room: usize, progress: Progress) -> Taken
+    ensures { λ r. ⌜ takenTold state r ≡ planTold state (planBetween state (now (file .entry)) room progress) ⌝ }
+{
+    let header = state.header;
+    if !progress.initialized {
+        let opening = header.initial_start as usize;
+        let start = begun(
+            Part::Opening,
+            opening,
+            header.initial_count,
+            0,
+            false,
+            progress,
+        );
+        return plan_opening(file, state, room, start);
+    }
+    let frame = progress.frame_index;
+    if frame < header.frame_count {
+        return begin_frame(file, state, room, progress.cursor, frame, progress);
+    }
+    if header.repeat {
+        return begin_frame(file, state, room, header.frame_start, 0, progress);
+    }
+    plan_closing(state.uses_si22, room, progress.closing_at(0, false))
+}
+
+// The part that is under way goes on.
+fn plan_part(file: &[u8], state: StreamPlayer, room: usize, progress: Progress) -> Taken
+    ensures { λ r. ⌜ takenTold state r ≡ planTold state (plan state (now (file .entry)) room progress (progress .part)) ⌝ }
+{
+    let part = progress.part;
+    match part {
+        Part::Between => plan_between(file, state, room, progress),
+        Part::Opening => plan_opening(file, state, room, progress),
+        Part::Frame => plan_frame(file, state, room, progress),
+        Part::Closing => plan_closing(state.uses_si22, room, progress),
+    }
+}
+
+// Refusal 25.
+fn refused_plan(state: StreamPlayer) -> CallPlan
+    ensures { λ r. ⌜ r ≡ noPlan state ⌝ }
+{
+    CallPlan {
+        refused: true,
+        count: 0,
+        complete: false,
+        next: state,
+    }
+}
+
+// The answer of a state to what was taken.
+fn told(state: StreamPlayer, taken: Taken) -> CallPlan
+    ensures { λ r. ⌜ r ≡ takenTold state taken ⌝ }
+{
+    if taken.refused {
+        return refused_plan(state);
+    }
+    let progress = taken.progress;
+    let next = state.moved(progress);
+    CallPlan {
+        refused: false,
+        count: taken.count,
+        complete: taken.complete,
+        next: next,
+    }
+}
+
+// One call, on any state and any bytes, with room for so many records. A finished state reads no file.
+pub fn plan_call(state: StreamPlayer, file: &[u8], room: usize) -> CallPlan
+    ensures { λ r. ⌜ r ≡ planTold state (planned state (now (file .entry)) room) ⌝ }
+{
+    let progress = state.progress;
+    if progress.finished {
+        return CallPlan {
+            refused: false,
+            count: 0,
+            complete: true,
+            next: state,
+        };
+    }
+    if foreign(file, state) {
+        return refused_plan(state);
+    }
+    told(state, plan_part(file, state, room, progress))
+}

@@ -1,0 +1,2 @@
+pub mod Vsync
+pub mod Start

@@ -1,0 +1,81 @@
+// The start of a player, which is `from_bytes` of the original: the file is checked, and what its header says is recorded.
+use file_check::FileAnswer;
+use file_check::check_file;
+use format::CardTable;
+use format::Header;
+use format::Part;
+use format::Progress;
+use format::StreamPlayer;
+use format::Verdict;
+use format::WaveSource;
+ghost use mathlib.Core.Bool.{false};
+ghost use mathlib.Core.Path.{_≡_};
+ghost use Rattle.format.specs.Rule.{verdictOf};
+ghost use Rattle.format.specs.State.{unplayed, started};
+ghost use Rattle.format.specs.Stream.{read};
+ghost use Rattle.player.specs.Start.{recordedPlayer, verdictOn};
+
+// The verdict on the file, and the player's state. A refused file gives a finished state with recorded size 0.
+pub struct Started {
+    pub verdict: Verdict,
+    pub state: StreamPlayer,
+}
+
+// The progress before the first vsync.
+fn unplayed(cursor: usize) -> Progress
+    ensures { λ r. ⌜ r ≡ unplayed false cursor ⌝ }
+{
+    let wave = WaveSource {
+        copied: false,
+        pool: 0,
+    };
+    let waves = [wave; 16];
+    Progress {
+        part: Part::Between,
+        cursor: cursor,
+        operation_index: 0,
+        operation_count: 0,
+        write_index: 0,
+        frame_index: 0,
+        initialized: false,
+        finished: false,
+        wave_sources: waves,
+    }
+}
+
+// The state of an accepted file.
+fn recorded(header: Header, cards: CardTable, uses_si22: bool) -> StreamPlayer
+    ensures { λ r. ⌜ r ≡ recordedPlayer header cards «uses_si22» ⌝ }
+{
+    let progress = unplayed(header.frame_start);
+    StreamPlayer {
+        header: header,
+        cards: cards,
+        uses_si22: uses_si22,
+        progress: progress,
+    }
+}
+
+pub fn start(file: &[u8]) -> Started
+    ensures { λ r. ⌜ (verdictOf (r .verdict) ≡ verdictOn (read (now (file .entry)))) × (r .state ≡ started (now (file .entry))) ⌝ }
+{
+    let checked = check_file(file);
+    let cards = checked.cards;
+    let answer = checked.answer;
+    match answer {
+        FileAnswer::Accepted { header, uses_si22 } => {
+            let state = recorded(header, cards, uses_si22);
+            Started {
+                verdict: Verdict::Allowed,
+                state: state,
+            }
+        }
+        FileAnswer::Refused(refusal) => {
+            let state = StreamPlayer::refused();
+            Started {
+                verdict: Verdict::Refused(refusal),
+                state: state,
+            }
+        }
+    }
+}

@@ -1,0 +1,4 @@
+pub mod Place
+pub mod Closing
+pub mod Operation
+pub mod Turn

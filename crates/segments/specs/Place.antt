@@ -1,0 +1,28 @@
+-- How the storing of a call's records goes on from a place.
+use Prim.Native.Nat.{ℕ, _-_}
+use mathlib.Core.Bool.{false, cond}
+use lib.Dec.{eqb}
+use Rattle.writes.specs.declared.Segment.{Segment}
+use Rattle.segments.specs.declared.place.Place.{Place}
+
+-- no records
+abbrev pub noSegment : Segment
+noSegment = record { target = 0; address = 0; count = 0; copied = false; value = 0; from = 0 }
+
+-- nothing is left
+abbrev pub stopped : Place → Place
+stopped place =
+    record { closing = place .closing; left = 0; opening = place .opening; after = place .after; cursor = place .cursor; done = place .done; total = place .total; room = place .room }
+
+-- where the next operation is: behind the opening's last one comes the frame's first one
+abbrev pub nextCursor : Place → (cursor : ℕ) → ℕ
+nextCursor place cursor = cond (eqb (place .opening) 1) (place .after) cursor
+
+-- one closing write or operation more is done, and so many records are taken
+abbrev pub onward : Place → (cursor taken : ℕ) → Place
+onward place cursor taken =
+    record { closing = place .closing; left = place .left - 1; opening = place .opening - 1; after = place .after; cursor = nextCursor place cursor; done = 0; total = place .total; room = place .room - taken }
+
+-- where in the run the next record goes
+abbrev pub runPlace : Place → ℕ
+runPlace place = place .total - place .room

@@ -1,0 +1,10 @@
+// The records of a vsync call as segments, one after the other. Nothing is stored here.
+mod closing;
+mod of_operation;
+mod place;
+mod turn;
+
+pub use place::Place;
+pub use place::Turn;
+pub use place::less;
+pub use turn::next_segment;

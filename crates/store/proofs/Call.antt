@@ -1,0 +1,95 @@
+-- The run after a call: what `store_call` stores is what the call answers.
+use Prim.Native.Nat.{ℕ, zero, suc, _-_, _<_}
+use mathlib.Core.Bool.{Bool, true, false, cond, not}
+use mathlib.Core.List.{List, [], _∷_, _++_}
+use mathlib.Core.Path.{_≡_, refl, sym, ap, _∙_}
+use native.Mathlib.Nat.{zero-add}
+use native.Mathlib.Omega.{arith}
+use borrow.Author.Tests.{ne-eqb}
+use lib.Dec.{eqb, ltb}
+use lib.ListN.{length, drop}
+use Rattle.format.specs.declared.operation.WriteRecord.{WriteRecord}
+use Rattle.format.specs.declared.player.Part.{Part}
+use Rattle.format.specs.declared.player.Part.the-variants.{Between, Opening, Frame, Closing}
+use Rattle.format.specs.declared.player.Progress.{Progress}
+use Rattle.format.specs.declared.player.StreamPlayer.{StreamPlayer}
+use Rattle.format.specs.Checked.{Checked, ok, refused, _>>=_, _>>_}
+use Rattle.format.specs.Lent.{stored}
+use Rattle.format.specs.Player.{Played, openingBegun, frameBegun, closingAt, playFrame, playOpening, playClosing, play, belongs, as25, call, runAfter}
+use Rattle.format.proofs.Checks.{refused-not-ok, through, passed-check, ok-is}
+use Rattle.agreement.proofs.Planned.{records-fit}
+use Rattle.segments.specs.declared.place.Place.{Place}
+use Rattle.begin.specs.Begin.{nowhere, closingFrom, frameAt, openingPlace, betweenPlace, partPlace, firstPlace}
+use Rattle.writes.specs.Segment.{inserted}
+use Rattle.store.specs.Stored.{storedFrom, storedCall}
+use Rattle.store.proofs.Storing.{stored-none}
+use Rattle.store.proofs.Frames.{begun-stored, under-way, opening-stored}
+use Rattle.store.proofs.Closing.{closing-stored}
+
+module _ (file : List ℕ) (state : StreamPlayer) (run : List WriteRecord) (some : 0 < length run) where
+  abbrev total : ℕ
+  total = length run
+
+  -- from a place on, the records of an answer are stored in front
+  abbrev Gives : Checked Played → Place → Type 0
+  Gives answer place = (a : Played) → answer ≡ ok a → storedFrom file state place run ≡ inserted (total - total) (a .records) run
+
+  gives-either : (b : Bool) (x y : Checked Played) (p q : Place) → Gives x p → Gives y q → Gives (cond b x y) (cond b p q)
+  gives-either true x y p q h h′ = h
+  gives-either false x y p q h h′ = h′
+
+  gives-frame : (cursor index : ℕ) (p : Progress) → Gives (frameBegun file cursor index p >>= playFrame state file total) (frameAt file cursor total)
+  gives-frame cursor index p a e =
+      let begun = through (frameBegun file cursor index p) _ e in
+      begun-stored file state total cursor index p (begun .value) a (begun .is) (begun .then) run some refl
+
+  gives-opening : (p : Progress) → Gives (playOpening state file total (openingBegun (state .header) p)) (openingPlace file (state .header) (state .header .«initial_count») (state .header .«initial_start») 0 total)
+  gives-opening p a e =
+      let count : state .header .«initial_count» ≡ state .header .«initial_count» - 0 = omega arith in
+      ap (λ (n : ℕ). storedFrom file state (openingPlace file (state .header) n (state .header .«initial_start») 0 total) run) count ∙ opening-stored file state total (openingBegun (state .header) p) a run e some refl
+
+  gives-part : (part : Part) → Gives (play state file total (state .progress) part) (partPlace file state total part)
+  unfolding play betweenPlace
+  gives-part Opening a e = opening-stored file state total (state .progress) a run e some refl
+  gives-part Frame a e = under-way file state total (state .progress) a e run some refl
+  gives-part Closing a e = closing-stored file state total (state .progress) a run e some refl
+  gives-part Between a e =
+      gives-either (not (state .progress .initialized)) _ _ _ _ (gives-opening (state .progress))
+      (gives-either (ltb (state .progress .«frame_index») (state .header .«frame_count»)) _ _ _ _ (gives-frame (state .progress .cursor) (state .progress .«frame_index») (state .progress))
+      (gives-either (state .header .repeat) _ _ _ _ (gives-frame (state .header .«frame_start») 0 (state .progress))
+      (λ a e. closing-stored file state total (closingAt 0 false (state .progress)) a run e some refl))) a e
+
+-- a call that takes none leaves the run as it is
+pub stored-nothing : (file : List ℕ) (state : StreamPlayer) (run : List WriteRecord) → storedCall file state 0 run ≡ run
+unfolding storedCall firstPlace
+stored-nothing file state run = stored-none file state (nowhere (length run)) run refl
+
+checked-25 : (x : Checked Played) (a : Played) → as25 x ≡ ok a → x ≡ ok a
+checked-25 (ok b) a e = e
+checked-25 (refused number place) a e = absurd (refused-not-ok e)
+
+-- a call that takes some plays the part that is under way
+plays : (file : List ℕ) (state : StreamPlayer) (room : ℕ) (a : Played) → call state file room ≡ ok a → 0 < length (a .records) → play state file room (state .progress) (state .progress .part) ≡ ok a
+unfolding call
+plays file state room a e some = go (state .progress .finished) e
+  where
+    go : (b : Bool) → cond b (ok (record { records = []; complete = true; next = state })) (as25 (belongs state file >> play state file room (state .progress) (state .progress .part))) ≡ ok a → play state file room (state .progress) (state .progress .part) ≡ ok a
+    go true e =
+        let none : 0 ≡ length (a .records) = ap (λ (x : Played). length (x .records)) (ok-is e) in
+        absurd (omega arith)
+    go false e = passed-check (belongs state file) (checked-25 _ a e) .1
+
+taken-stored : (file : List ℕ) (state : StreamPlayer) (run : List WriteRecord) (a : Played) → call state file (length run) ≡ ok a → 0 < length (a .records) → storedCall file state (length (a .records)) run ≡ stored (a .records) run
+unfolding storedCall firstPlace
+taken-stored file state run a e some =
+    let fits = records-fit state file (length run) a e in
+    let front : length run - length run ≡ 0 = omega arith in
+    rw (ne-eqb (length (a .records)) 0 (λ (z : length (a .records) ≡ 0). omega arith)) (gives-part file state run (omega (arith, fits)) (state .progress .part) a (plays file state (length run) a e some) ∙ ap (λ (k : ℕ). inserted k (a .records) run) front ∙ ap (λ (k : ℕ). a .records ++ drop k run) (zero-add (length (a .records))))
+
+-- an answer's records are stored in front, and no later one is touched
+pub call-stored : (file : List ℕ) (state : StreamPlayer) (run : List WriteRecord) (a : Played) → call state file (length run) ≡ ok a → storedCall file state (length (a .records)) run ≡ runAfter run (call state file (length run))
+call-stored file state run a e = go (a .records) refl ∙ ap (runAfter run) (sym e)
+  where
+    go : (l : List WriteRecord) → a .records ≡ l → storedCall file state (length (a .records)) run ≡ stored (a .records) run
+    go [] none = rw none (stored-nothing file state run)
+    go (x ∷ l) is = taken-stored file state run a e (rw is (omega arith))

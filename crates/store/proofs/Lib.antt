@@ -1,0 +1,8 @@
+pub mod Storing
+pub mod Address
+pub mod Taken
+pub mod Parts
+pub mod PartStored
+pub mod Frames
+pub mod Closing
+pub mod Call

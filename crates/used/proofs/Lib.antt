@@ -1,0 +1,3 @@
+pub mod As25
+pub mod Slots
+pub mod Same

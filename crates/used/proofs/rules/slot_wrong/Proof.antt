@@ -1,0 +1,84 @@
+-- `used::rules::slot_wrong` meets its contract: the cards from `i` on decide. Assumes nothing.
+use borrow.Author.Needs.{needs}
+use borrow.Author.Tests.{eq-eqb, ne-eqb}
+use native.Mathlib.Omega.{arith}
+use Prim.Native.Nat.{_≤_, _-_}
+use mathlib.Core.Path.{_≡_, refl}
+use lib.ListN.{take, drop, length-take}
+use Rattle.format.specs.Card.{cardsOf}
+use Rattle.format.specs.Player.{slotWrong}
+use Rattle.format.proofs.Cards.{eight}
+use Rattle.used.proofs.Slots.{wrong-step, wrong-end}
+use Rattle.used.proofs.rules.slot_wrong.Statement.{statement}
+use Rattle.used.proofs.rules.slot_wrong.Tie as tie
+
+abbrev Inv-loop : tie.InvT-loop
+Inv-loop slot table count i₀ i =
+    (i ≤ 8) × (slotWrong (cardsOf table) slot ≡ slotWrong (drop i (take (table .count) (table .cards))) slot)
+
+abbrev μ-loop : tie.MeasureT-loop
+μ-loop slot table count i₀ i = 8 - i
+
+loop-holds : tie.Need-loop-holds Inv-loop μ-loop
+loop-holds c = (omega arith, refl)
+
+returns : tie.Need-returns Inv-loop μ-loop
+returns c =
+    let l = c .before .before in
+    let s = l .before in
+    let t = s .args .t1 in
+    rw (l .loop .inv .1, wrong-end (t .cards) (t .count) (l .loop .i) (s .args .slot) (omega (arith, length-take (t .count) (t .cards))))
+
+mul-card : tie.Need-mul-card Inv-loop μ-loop
+mul-card c = omega arith
+
+element-copy-out-card : tie.Need-element-copy-out-card Inv-loop μ-loop
+element-copy-out-card c = omega arith
+
+one-card-wrong-requires : tie.Need-one-card-wrong-requires Inv-loop μ-loop
+one-card-wrong-requires c κs = search needs
+
+returns-2 : tie.Need-returns-2 Inv-loop μ-loop
+returns-2 c =
+    let found = c .before .before .before in
+    let l = found .before .before .before in
+    let s = l .before in
+    let t = s .args .t1 in
+    rw (l .loop .inv .1, wrong-step (t .cards) (t .count) (l .loop .i) (s .args .slot) (omega arith) (omega (arith, eight t _ (s .good .0))), eq-eqb _ _ (c .before .if2 .taken)) (c .one-card-wrong .ensures)
+
+add-i : tie.Need-add-i Inv-loop μ-loop
+add-i c = omega arith
+
+loop-less : tie.Need-loop-less Inv-loop μ-loop
+loop-less c = omega arith
+
+loop-again : tie.Need-loop-again Inv-loop μ-loop
+loop-again c =
+    let l = c .before .before .before .before .before in
+    let s = l .before in
+    let t = s .args .t1 in
+    (omega arith, rw (l .loop .inv .1, wrong-step (t .cards) (t .count) (l .loop .i) (s .args .slot) (omega arith) (omega (arith, eight t _ (s .good .0))), ne-eqb _ _ (c .if2 .left)))
+
+returns-3 : tie.Need-returns-3 Inv-loop μ-loop
+returns-3 c =
+    let l = c .before in
+    let s = l .before in
+    let t = s .args .t1 in
+    rw (l .loop .inv .1, wrong-end (t .cards) (t .count) (l .loop .i) (s .args .slot) (omega (arith, length-take (t .count) (t .cards), eight t _ (s .good .0))))
+
+pub slot-wrong-spec : {M : Type 1} → statement M
+slot-wrong-spec =
+    tie.close
+    (tie.spec
+    Inv-loop
+    μ-loop
+    loop-holds
+    returns
+    mul-card
+    element-copy-out-card
+    one-card-wrong-requires
+    returns-2
+    add-i
+    loop-less
+    loop-again
+    returns-3)
