@@ -1,11 +1,11 @@
 // The plan of a call, by the part that is playing.
-use crate::belongs::foreign;
 use crate::closing::plan_closing;
 use crate::frame::begin_frame;
 use crate::frame::plan_frame;
 use crate::opening::plan_opening;
 use crate::progress::begun;
 use crate::taken::Taken;
+use belongs::foreign;
 use format::Part;
 use format::Progress;
 use format::StreamPlayer;
