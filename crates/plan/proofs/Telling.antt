@@ -1,15 +1,15 @@
 -- Laws of the answer of a call: which number a refusal has does not matter.
-use Prim.Native.Nat.{ℕ, _+_, _-_, min}
+use Prim.Native.Nat.{ℕ, _+_, _-_}
 use mathlib.Core.Bool.{Bool, true, false, cond}
 use mathlib.Core.List.{List}
 use mathlib.Core.Path.{_≡_, refl, ap, _∙_}
-use lib.Dec.{eqb, leb, ltb}
+use lib.Dec.{eqb, ltb}
 use lib.ListN.{length}
 use Rattle.format.specs.declared.player.Progress.{Progress}
 use Rattle.format.specs.declared.player.StreamPlayer.{StreamPlayer}
 use Rattle.format.specs.Checked.{Checked, ok, refused, refuse, _>>=_, _>>_}
 use Rattle.format.specs.Pace.{Plan, paced, planFrame, planClosing}
-use Rattle.format.specs.Player.{frameBegun, frameEnded, closingAt, operationsLeft, as25}
+use Rattle.format.specs.Player.{frameBegun, frameEnded, operationsLeft, as25}
 use Rattle.format.specs.State.{moved}
 use Rattle.pace.specs.declared.operations.Paced.{Paced}
 use Rattle.pace.specs.Told.{paceOf}
