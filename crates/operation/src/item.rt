@@ -1,14 +1,10 @@
 // One record or operation of a file, with the rules 13 to 19 and the limit that rule 14 names. Where the limit passes the file's end,
 // the bytes there are 0.
-use crate::fields::address_width;
-use crate::fields::operation_size;
-use crate::fields::read_fields;
-use crate::lookup::find_target;
-use crate::rules::check_copy;
-use crate::rules::check_fill;
-use crate::rules::check_write;
 use big_endian::byte_at;
 use big_endian::read_u24;
+use fields::address_width;
+use fields::operation_size;
+use fields::read_fields;
 use format::CardTable;
 use format::Header;
 use format::Operation;
@@ -16,6 +12,10 @@ use format::Refusal;
 use format::Rule;
 use format::Target;
 use format::Verdict;
+use rules::check_copy;
+use rules::check_fill;
+use rules::check_write;
+use rules::find_target;
 ghost use mathlib.Core.Path.{_≡_};
 ghost use Rattle.format.specs.Operation.{settingOf, operationAt, recordAt, itemAt};
 ghost use Rattle.format.specs.Pool.{poolAt};

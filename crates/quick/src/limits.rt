@@ -1,7 +1,7 @@
 // The limits of every target number of a file, in arrays.
 use format::CardTable;
 use format::Target;
-use operation::find_target;
+use rules::find_target;
 ghost use mathlib.Core.Path.{_≡_};
 ghost use lib.ListN.{length};
 ghost use Rattle.format.specs.Card.{cardsOf};

@@ -4,7 +4,7 @@ use big_endian::byte_at;
 use big_endian::read_u16;
 use big_endian::read_u32;
 use big_endian::window;
-use operation::read_address;
+use fields::read_address;
 ghost use mathlib.Core.Path.{_≡_};
 ghost use Prim.Native.Nat.{_≤_};
 ghost use Rattle.quick.specs.Quick.{outOfBulk, wholeWaves, poolFits, quickWrite, quickFill, quickCopy, quickOperation};

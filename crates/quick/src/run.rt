@@ -4,7 +4,7 @@ use crate::operations::quick_operation;
 use crate::records::quick_record;
 use big_endian::byte_at;
 use big_endian::window;
-use operation::address_width;
+use fields::address_width;
 ghost use mathlib.Core.Path.{_≡_};
 ghost use mathlib.Core.Bool.{_||_};
 ghost use Prim.Native.Nat.{_≤_, min};

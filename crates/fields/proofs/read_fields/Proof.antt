@@ -1,0 +1,44 @@
+-- `fields::read_fields` meets its contract. Assumes nothing.
+use native.Mathlib.Omega.{arith}
+use mathlib.Core.Path.{_≡_}
+use Rattle.format.proofs.Sizes.{size-is}
+use Rattle.fields.proofs.read_fields.Statement.{statement}
+use Rattle.fields.proofs.read_fields.Tie as tie
+
+read-write-requires : tie.Need-read-write-requires
+read-write-requires c κs =
+    let s = c .before .before in
+    omega (arith, size-is (s .args .width) 0 (omega arith) (omega arith) (omega arith), rw (c .if1 .taken) at (s .pre .3))
+
+returns : tie.Need-returns
+returns c = cc
+
+read-fill-requires : tie.Need-read-fill-requires
+read-fill-requires c κs =
+    let s = c .before .before .before in
+    omega (arith, size-is (s .args .width) 1 (omega arith) (omega arith) (omega arith), rw (c .if2 .taken) at (s .pre .3))
+
+returns-2 : tie.Need-returns-2
+returns-2 c = cc
+
+read-copy-requires : tie.Need-read-copy-requires
+read-copy-requires c κs =
+    let s = c .before .before .before in
+    let copy : s .args .opcode ≡ 2 = omega arith in
+    omega (arith, size-is (s .args .width) 2 (omega arith) (omega arith) (omega arith), rw copy at (s .pre .3))
+
+returns-3 : tie.Need-returns-3
+returns-3 c =
+    let copy : c .before .before .before .before .args .opcode ≡ 2 = omega arith in
+    cc
+
+pub read-fields-spec : {M : Type 1} → statement M
+read-fields-spec =
+    tie.close
+    (tie.spec
+    read-write-requires
+    returns
+    read-fill-requires
+    returns-2
+    read-copy-requires
+    returns-3)
