@@ -12,7 +12,7 @@ use Rattle.format.specs.Rule.{verdictOf}
 use Rattle.format.specs.State.{tableOf}
 use Rattle.format.specs.Stream.{countsWrong}
 use Rattle.format.proofs.Checks.{refused-not-ok}
-use Rattle.tables.specs.Cards.{Reading, reading}
+use Rattle.cards.specs.Cards.{Reading, reading}
 use Rattle.file_check.specs.Walk.{directoryWrong, poolsChecked, layoutBehind}
 use Rattle.file_check.proofs.Rows.{then-then}
 

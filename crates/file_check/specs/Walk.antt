@@ -15,7 +15,7 @@ use Rattle.format.specs.Rule.{verdictOf}
 use Rattle.format.specs.State.{tableOf}
 use Rattle.format.specs.Stream.{countsWrong, sectionsWrong}
 use Rattle.parts.specs.Walk.{partsFrom}
-use Rattle.tables.specs.Pools.{poolsEnd}
+use Rattle.pools.specs.Pools.{poolsEnd}
 use Rattle.file_check.specs.Answer.{Recorded}
 
 -- where the payloads start: behind the directory

@@ -1,6 +1,5 @@
 // The whole file: the rules 1 to 20.
 use crate::layout::check_layout;
-use format::CardRequirement;
 use format::CardTable;
 use format::Header;
 use format::Refusal;
@@ -9,7 +8,8 @@ use header::HeaderRead;
 use header::read_header;
 use parts::PartsRead;
 use parts::check_parts;
-use tables::parse_v4_cards;
+use state::no_cards;
+use cards::parse_v4_cards;
 ghost use mathlib.Core.Path.{_≡_};
 ghost use Rattle.format.specs.Checked.{ok};
 ghost use Rattle.format.specs.Header.{headerFrom};
@@ -33,23 +33,10 @@ pub struct FileCheck {
 fn refused_file(refusal: Refusal) -> FileCheck
     ensures { λ r. ⌜ fileCheckOf r ≡ whole (rule.refusal refusal) ⌝ }
 {
-    let id = [0; 16];
-    let none = CardRequirement {
-        slot: 0,
-        id_length: 0,
-        id_offset: 0,
-        bulk_start: 0,
-        bulk_length: 0,
-        id: id,
-    };
-    let cards = [none; 8];
-    let table = CardTable {
-        cards: cards,
-        count: 0,
-    };
+    let cards = no_cards();
     FileCheck {
         answer: FileAnswer::Refused(refusal),
-        cards: table,
+        cards,
     }
 }
 

@@ -4,7 +4,7 @@ use crate::check_file;
 use format::Header;
 use format::Pool;
 use format::Refusal;
-use tables::read_pool;
+use pools::read_pool;
 ghost use mathlib.Core.Path.{_≡_};
 ghost use Rattle.format.specs.Bytes as bytes;
 ghost use Rattle.format.specs.Lookup.{poolKind, poolPayload};

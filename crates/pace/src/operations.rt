@@ -3,6 +3,7 @@ use crate::waves::count_of;
 use crate::waves::waves_now;
 use format::Progress;
 use format::StreamPlayer;
+use state::placed;
 use used::ItemUsed;
 use used::item_used;
 ghost use mathlib.Core.Path.{_≡_};
@@ -59,7 +60,7 @@ pub fn pace(
     let mut left = operations_left(progress);
     while 0 < left {
         if free == 0 {
-            let after = progress.placed(cursor, operations, writes, waves);
+            let after = placed(progress, cursor, operations, writes, waves);
             return Paced {
                 refused: false,
                 room: 0,
@@ -80,7 +81,7 @@ pub fn pace(
         waves = set;
         let rest = count - writes;
         if free < rest as usize {
-            let after = progress.placed(cursor, operations, writes + free as u32, waves);
+            let after = placed(progress, cursor, operations, writes + free as u32, waves);
             return Paced {
                 refused: false,
                 room: 0,
@@ -93,7 +94,7 @@ pub fn pace(
         writes = 0;
         left -= 1;
     }
-    let after = progress.placed(cursor, operations, writes, waves);
+    let after = placed(progress, cursor, operations, writes, waves);
     Paced {
         refused: false,
         room: free,

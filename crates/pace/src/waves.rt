@@ -1,7 +1,7 @@
 // The wave sources behind an operation, and how many writes it makes.
 use format::Operation;
 use format::WaveSource;
-use tables::read_pool;
+use pools::read_pool;
 ghost use mathlib.Core.Path.{_≡_};
 ghost use Rattle.format.specs.Pace.{countOf};
 ghost use Rattle.format.specs.Player.{wavesBy};

@@ -9,6 +9,8 @@ use belongs::foreign;
 use format::Part;
 use format::Progress;
 use format::StreamPlayer;
+use state::closing_at;
+use state::moved;
 ghost use mathlib.Core.Path.{_≡_};
 ghost use Rattle.format.specs.Pace.{plan, planned};
 ghost use Rattle.plan.specs.Told.{noPlan, planTold, takenTold, planBetween};
@@ -44,7 +46,7 @@ fn plan_between(file: &[u8], state: StreamPlayer, room: usize, progress: Progres
     if state.header.repeat {
         return begin_frame(file, state, room, state.header.frame_start, 0, progress);
     }
-    plan_closing(state.uses_si22, room, progress.closing_at(0, false))
+    plan_closing(state.uses_si22, room, closing_at(progress, 0, false))
 }
 
 // The part that is under way goes on.
@@ -80,7 +82,7 @@ fn told(state: StreamPlayer, taken: Taken) -> CallPlan
         return refused_plan(state);
     }
     let progress = taken.progress;
-    let next = state.moved(progress);
+    let next = moved(state, progress);
     CallPlan {
         refused: false,
         count: taken.count,

@@ -2,6 +2,7 @@
 use crate::taken::Taken;
 use crate::taken::refused_part;
 use format::Progress;
+use state::closing_at;
 ghost use mathlib.Core.Path.{_≡_};
 ghost use mathlib.Core.Bool.{cond};
 ghost use Prim.Native.Nat.{min};
@@ -38,7 +39,7 @@ pub fn plan_closing(si22: bool, room: usize, progress: Progress) -> Taken
     let rest = total - made;
     let count = fitting(room, rest);
     let complete = rest as usize <= room;
-    let after = progress.closing_at(made + count, complete);
+    let after = closing_at(progress, made + count, complete);
     Taken {
         refused: false,
         count: count as usize,

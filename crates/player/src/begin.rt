@@ -8,6 +8,7 @@ use format::Progress;
 use format::StreamPlayer;
 use format::Verdict;
 use format::WaveSource;
+use state::refused_player;
 ghost use mathlib.Core.Bool.{false};
 ghost use mathlib.Core.Path.{_≡_};
 ghost use Rattle.format.specs.Rule.{verdictOf};
@@ -71,7 +72,7 @@ pub fn start(file: &[u8]) -> Started
             }
         }
         FileAnswer::Refused(refusal) => {
-            let state = StreamPlayer::refused();
+            let state = refused_player();
             Started {
                 verdict: Verdict::Refused(refusal),
                 state: state,

@@ -4,7 +4,7 @@ use format::Refusal;
 use format::Rule;
 use format::Target;
 use format::Verdict;
-use tables::read_pool;
+use pools::read_pool;
 ghost use mathlib.Core.Path.{_≡_};
 ghost use Rattle.format.specs.Pool.{poolAt};
 ghost use Rattle.format.specs.Rule.{verdictOf};

@@ -1,6 +1,6 @@
 // The writes of one operation as a segment.
 use format::Operation;
-use tables::read_pool;
+use pools::read_pool;
 use writes::Segment;
 ghost use mathlib.Core.Path.{_≡_};
 ghost use Rattle.format.specs.Pace.{countOf};

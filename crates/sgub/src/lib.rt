@@ -194,5 +194,5 @@ fn entry_of(pool: Pool) -> SgubPoolEntry
 pub extern "C" fn sgub_pool_entry(file: &[u8], directory_offset: u32, id: u16) -> SgubPoolEntry
     ensures { λ r. ⌜ r ≡ entryFields (poolAt (now (file .entry)) «directory_offset» id) ⌝ }
 {
-    entry_of(tables::read_pool(file, directory_offset, id as u32))
+    entry_of(pools::read_pool(file, directory_offset, id as u32))
 }

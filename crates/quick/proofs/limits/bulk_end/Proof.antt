@@ -1,50 +1,34 @@
 use borrow.Author.Needs.{needs}
-use native.Mathlib.Omega.{arith}
 use mathlib.Core.Bool.{and-false, or-false}
 use Rattle.quick.specs.Limits.{bulkEnd}
-use borrow.Author.Needs.{needs}
 use Rattle.quick.proofs.limits.bulk_end.Statement.{statement}
 use Rattle.quick.proofs.limits.bulk_end.Tie as tie
-use Rattle.quick.proofs.limits.bulk_end.Reads as reads
-use Rattle.quick.proofs.limits.bulk_end.Lts as lts
-use Rattle.format.proofs.target.Target.bulk_length.Reads as bulk-length-reads
-use Rattle.format.proofs.target.Target.bulk_start.Reads as bulk-start-reads
-use Rattle.format.proofs.target.Target.missing.Reads as missing-reads
 
--- src/limits.rt:26:8
 missing-requires : tie.Need-missing-requires
 missing-requires c κs = search needs
 
--- src/limits.rt:27:9
 returns : tie.Need-returns
 unfolding bulkEnd
 returns c = simp (← (c .before .missing .ensures), c .if1 .taken, and-false, or-false)
 
--- src/limits.rt:29:5
 bulk-start-requires : tie.Need-bulk-start-requires
 bulk-start-requires c κs = search needs
 
--- src/limits.rt:29:5
 cast-result : tie.Need-cast-result
 cast-result c = search needs
 
--- src/limits.rt:29:34
 bulk-length-requires : tie.Need-bulk-length-requires
 bulk-length-requires c κs = search needs
 
--- src/limits.rt:29:34
 cast-result-2 : tie.Need-cast-result-2
 cast-result-2 c = search needs
 
--- src/limits.rt:29:5
 add-result : tie.Need-add-result
 add-result c = search needs
 
--- src/limits.rt:29:5
 add-result-2 : tie.Need-add-result-2
 add-result-2 c = search needs
 
--- src/limits.rt:23:1
 returns-2 : tie.Need-returns-2
 unfolding bulkEnd
 returns-2 c = simp (← (c .before .before .before .missing .ensures), c .before .before .if1 .left, ← (c .before .bulk-start .ensures), ← (c .bulk-length .ensures), and-false, or-false)

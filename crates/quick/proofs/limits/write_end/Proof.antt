@@ -3,32 +3,22 @@ use Rattle.quick.proofs.Tabled.{write-limit-range}
 use native.Mathlib.Omega.{arith}
 use mathlib.Core.Bool.{and-false, or-false}
 use Rattle.quick.specs.Limits.{writeEnd}
-use borrow.Author.Needs.{needs}
 use Rattle.quick.proofs.limits.write_end.Statement.{statement}
 use Rattle.quick.proofs.limits.write_end.Tie as tie
-use Rattle.quick.proofs.limits.write_end.Reads as reads
-use Rattle.quick.proofs.limits.write_end.Lts as lts
-use Rattle.format.proofs.target.Target.missing.Reads as missing-reads
-use Rattle.format.proofs.target.Target.write_limit.Reads as write-limit-reads
 
--- src/limits.rt:16:8
 missing-requires : tie.Need-missing-requires
 missing-requires c κs = search needs
 
--- src/limits.rt:17:9
 returns : tie.Need-returns
 unfolding writeEnd
 returns c = simp (← (c .before .missing .ensures), c .if1 .taken, and-false, or-false)
 
--- src/limits.rt:19:5
 write-limit-requires : tie.Need-write-limit-requires
 write-limit-requires c κs = search needs
 
--- src/limits.rt:19:5
 add-result : tie.Need-add-result
 add-result c = omega (arith, c .write-limit .ensures, write-limit-range (c .before .before .before .args .target))
 
--- src/limits.rt:13:1
 returns-2 : tie.Need-returns-2
 unfolding writeEnd
 returns-2 c = simp (← (c .before .before .missing .ensures), c .before .if1 .left, ← (c .write-limit .ensures), and-false, or-false)

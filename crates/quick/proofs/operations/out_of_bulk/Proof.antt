@@ -1,29 +1,21 @@
 use borrow.Author.Needs.{needs}
-use native.Mathlib.Omega.{arith}
 use borrow.Author.Tests.{eq-eqb, le-leb, le-ltb, lt-leb, lt-ltb, ne-eqb}
 use mathlib.Core.Bool.{and-false, or-false}
 use Rattle.quick.specs.Quick.{outOfBulk}
-use borrow.Author.Needs.{needs}
 use Rattle.quick.proofs.operations.out_of_bulk.Statement.{statement}
 use Rattle.quick.proofs.operations.out_of_bulk.Tie as tie
-use Rattle.quick.proofs.operations.out_of_bulk.Reads as reads
-use Rattle.quick.proofs.operations.out_of_bulk.Lts as lts
 
--- src/operations.rt:17:9
 returns : tie.Need-returns
 unfolding outOfBulk
 returns c = simp (eq-eqb _ _ (c .if1 .taken), and-false, or-false)
 
--- src/operations.rt:20:9
 returns-2 : tie.Need-returns-2
 unfolding outOfBulk
 returns-2 c = simp (ne-eqb _ _ (c .before .if1 .left), lt-leb _ _ (c .if2 .taken), lt-ltb _ _ (c .if2 .taken), and-false, or-false)
 
--- src/operations.rt:22:12
 add-result : tie.Need-add-result
 add-result c = search needs
 
--- src/operations.rt:13:1
 returns-3 : tie.Need-returns-3
 unfolding outOfBulk
 returns-3 c = simp (ne-eqb _ _ (c .before .if1 .left), le-ltb _ _ (c .if2 .left), le-leb _ _ (c .if2 .left), and-false, or-false)

@@ -1,42 +1,28 @@
 use borrow.Author.Needs.{needs}
-use native.Mathlib.Omega.{arith}
 use mathlib.Core.Bool.{and-false, or-false}
 use Rattle.quick.specs.Quick.{quickFill}
-use borrow.Author.Needs.{needs}
 use Rattle.quick.proofs.operations.quick_fill.Statement.{statement}
 use Rattle.quick.proofs.operations.quick_fill.Tie as tie
-use Rattle.quick.proofs.operations.quick_fill.Reads as reads
-use Rattle.quick.proofs.operations.quick_fill.Lts as lts
-use Rattle.big_endian.proofs.read_u32.Reads as read-u32-reads
-use Rattle.operation.proofs.read_address.Reads as read-address-reads
-use Rattle.quick.proofs.operations.out_of_bulk.Reads as out-of-bulk-reads
 
--- src/operations.rt:68:9
 read-address-requires : tie.Need-read-address-requires
 read-address-requires c κs = search needs
 
--- src/operations.rt:69:34
 add-read-u32 : tie.Need-add-read-u32
 add-read-u32 c = search needs
 
--- src/operations.rt:69:9
 read-u32-requires : tie.Need-read-u32-requires
 read-u32-requires c κs = search needs
 
--- src/operations.rt:70:8
 out-of-bulk-requires : tie.Need-out-of-bulk-requires
 out-of-bulk-requires c κs = search needs
 
--- src/operations.rt:71:9
 returns : tie.Need-returns
 unfolding quickFill
 returns c = simp (← (c .before .before .before .read-address .ensures), ← (c .before .before .read-u32 .ensures), ← (c .before .out-of-bulk .ensures), c .if1 .taken, and-false, or-false)
 
--- src/operations.rt:73:5
 add-result : tie.Need-add-result
 add-result c = search needs
 
--- src/operations.rt:64:1
 returns-2 : tie.Need-returns-2
 unfolding quickFill
 returns-2 c = simp (← (c .before .before .before .read-address .ensures), ← (c .before .before .read-u32 .ensures), ← (c .before .out-of-bulk .ensures), c .if1 .left, and-false, or-false)

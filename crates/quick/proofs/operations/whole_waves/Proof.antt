@@ -1,24 +1,17 @@
-use borrow.Author.Needs.{needs}
-use native.Mathlib.Omega.{arith}
 use borrow.Author.Tests.{eq-eqb, ne-eqb}
 use mathlib.Core.Bool.{and-false, or-false}
 use Rattle.quick.specs.Quick.{wholeWaves}
 use Rattle.quick.proofs.operations.whole_waves.Statement.{statement}
 use Rattle.quick.proofs.operations.whole_waves.Tie as tie
-use Rattle.quick.proofs.operations.whole_waves.Reads as reads
-use Rattle.quick.proofs.operations.whole_waves.Lts as lts
 
--- src/operations.rt:30:9
 returns : tie.Need-returns
 unfolding wholeWaves
 returns c = simp (ne-eqb _ _ (c .if1 .taken), and-false, or-false)
 
--- src/operations.rt:33:9
 returns-2 : tie.Need-returns-2
 unfolding wholeWaves
 returns-2 c = simp (eq-eqb _ _ (c .before .if1 .left), ne-eqb _ _ (c .if2 .taken), and-false, or-false)
 
--- src/operations.rt:26:1
 returns-3 : tie.Need-returns-3
 unfolding wholeWaves
 returns-3 c = simp (eq-eqb _ _ (c .before .if1 .left), eq-eqb _ _ (c .if2 .left), and-false, or-false)

@@ -1,24 +1,17 @@
-use borrow.Author.Needs.{needs}
-use native.Mathlib.Omega.{arith}
 use borrow.Author.Tests.{eq-eqb, le-leb, le-ltb, lt-leb, lt-ltb, ne-eqb}
 use mathlib.Core.Bool.{and-false, or-false}
 use Rattle.quick.specs.Quick.{plainWrite}
 use Rattle.quick.proofs.records.plain_write.Statement.{statement}
 use Rattle.quick.proofs.records.plain_write.Tie as tie
-use Rattle.quick.proofs.records.plain_write.Reads as reads
-use Rattle.quick.proofs.records.plain_write.Lts as lts
 
--- src/records.rt:13:9
 returns : tie.Need-returns
 unfolding plainWrite
 returns c = simp (lt-leb _ _ (c .if1 .taken), lt-ltb _ _ (c .if1 .taken), and-false, or-false)
 
--- src/records.rt:16:9
 returns-2 : tie.Need-returns-2
 unfolding plainWrite
 returns-2 c = simp (le-ltb _ _ (c .before .if1 .left), le-leb _ _ (c .before .if1 .left), eq-eqb _ _ (c .if2 .taken), and-false, or-false)
 
--- src/records.rt:9:1
 returns-3 : tie.Need-returns-3
 unfolding plainWrite
 returns-3 c = simp (le-ltb _ _ (c .before .if1 .left), le-leb _ _ (c .before .if1 .left), ne-eqb _ _ (c .if2 .left), and-false, or-false)

@@ -1,39 +1,25 @@
 use borrow.Author.Needs.{needs}
 use borrow.Author.Tests.{eq-eqb, ne-eqb}
 use Rattle.quick.specs.Run.{quickRun}
-use native.Mathlib.Omega.{arith}
-use borrow.Author.Needs.{needs}
 use Rattle.quick.proofs.run.quick_run.Statement.{statement}
 use Rattle.quick.proofs.run.quick_run.Tie as tie
-use Rattle.quick.proofs.run.quick_run.Reads as reads
-use Rattle.quick.proofs.run.quick_run.Lts as lts
-use Rattle.operation.proofs.address_width.Reads as address-width-reads
-use Rattle.quick.proofs.run.operations_run.Reads as operations-run-reads
-use Rattle.quick.proofs.run.records_run.Reads as records-run-reads
-use Rattle.quick.proofs.run.smaller.Reads as smaller-reads
 
--- src/run.rt:130:9
 records-run-requires : tie.Need-records-run-requires
 records-run-requires c κs = search needs
 
--- src/run.rt:130:9
 returns : tie.Need-returns
 unfolding quickRun
 returns c = rw (eq-eqb _ _ (c .before .if1 .taken)) (c .records-run .ensures)
 
--- src/run.rt:134:9
 address-width-requires : tie.Need-address-width-requires
 address-width-requires c κs = search needs
 
--- src/run.rt:141:9
 smaller-requires : tie.Need-smaller-requires
 smaller-requires c κs = search needs
 
--- src/run.rt:132:5
 operations-run-requires : tie.Need-operations-run-requires
 operations-run-requires c κs = search needs
 
--- src/run.rt:114:1
 returns-2 : tie.Need-returns-2
 unfolding quickRun
 returns-2 c = rw (ne-eqb _ _ (c .before .before .before .if1 .left), ← (c .before .before .address-width .ensures .0), ← (c .before .smaller .ensures)) (c .operations-run .ensures)

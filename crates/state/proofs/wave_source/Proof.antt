@@ -1,0 +1,34 @@
+-- `state::wave_source` meets its contract. Assumes nothing.
+use borrow.Author.Needs.{needs}
+use Rattle.format.specs.State.{waveSource}
+use Rattle.format.proofs.Decided.{decided}
+use Rattle.state.proofs.wave_source.Statement.{statement}
+use Rattle.state.proofs.wave_source.Tie as tie
+
+mul-i : tie.Need-mul-i
+mul-i c = search needs
+
+add-i : tie.Need-add-i
+add-i c = search needs
+
+mul-result : tie.Need-mul-result
+mul-result c = search needs
+
+element-copy-out-result : tie.Need-element-copy-out-result
+element-copy-out-result c = search needs
+
+returns : tie.Need-returns
+unfolding waveSource
+returns c = search decided
+
+returns-2 : tie.Need-returns-2
+unfolding waveSource
+returns-2 c = search decided
+
+returns-3 : tie.Need-returns-3
+unfolding waveSource
+returns-3 c = search decided
+
+pub wave-source-spec : {M : Type 1} → statement M
+wave-source-spec =
+    tie.close (tie.spec mul-i add-i mul-result element-copy-out-result returns returns-2 returns-3)

@@ -1,0 +1,154 @@
+// A player's state by value: made, moved on, and asked for a wave source.
+use format::CardRequirement;
+use format::CardTable;
+use format::Header;
+use format::Part;
+use format::Progress;
+use format::StreamPlayer;
+use format::WaveSource;
+ghost use mathlib.Core.List.{[]};
+ghost use mathlib.Core.Path.{_≡_};
+ghost use Rattle.format.specs.Player.{placed, closingAt};
+ghost use Rattle.format.specs.State.{noCard, tableOf, refusedPlayer, moved, waveSource};
+
+// What stands for a card that is not there.
+pub fn no_card() -> CardRequirement
+    ensures { λ r. ⌜ r ≡ noCard ⌝ }
+{
+    let id = [0; 16];
+    CardRequirement {
+        slot: 0,
+        id_length: 0,
+        id_offset: 0,
+        bulk_start: 0,
+        bulk_length: 0,
+        id: id,
+    }
+}
+
+// A table without cards.
+pub fn no_cards() -> CardTable
+    ensures { λ r. ⌜ r ≡ tableOf [] ⌝ }
+{
+    let none = no_card();
+    let cards = [none; 8];
+    CardTable {
+        cards: cards,
+        count: 0,
+    }
+}
+
+// What a refused start gives back.
+pub fn refused_player() -> StreamPlayer
+    ensures { λ r. ⌜ r ≡ refusedPlayer ⌝ }
+{
+    let header = Header {
+        version: 0,
+        repeat: false,
+        frame_period: 0,
+        card_count: 0,
+        frame_count: 0,
+        pool_count: 0,
+        initial_count: 0,
+        directory_offset: 0,
+        initial_start: 0,
+        frame_start: 0,
+        total_size: 0,
+    };
+    let cards = no_cards();
+    let wave = WaveSource {
+        copied: false,
+        pool: 0,
+    };
+    let waves = [wave; 16];
+    let progress = Progress {
+        part: Part::Between,
+        cursor: 0,
+        operation_index: 0,
+        operation_count: 0,
+        write_index: 0,
+        frame_index: 0,
+        initialized: false,
+        finished: true,
+        wave_sources: waves,
+    };
+    StreamPlayer {
+        header: header,
+        cards: cards,
+        uses_si22: false,
+        progress: progress,
+    }
+}
+
+// The same state with other progress.
+pub fn moved(state: StreamPlayer, progress: Progress) -> StreamPlayer
+    ensures { λ r. ⌜ r ≡ moved state progress ⌝ }
+{
+    let header = state.header;
+    let cards = state.cards;
+    StreamPlayer {
+        header: header,
+        cards: cards,
+        uses_si22: state.uses_si22,
+        progress: progress,
+    }
+}
+
+// The pool last copied to a core's channel, if any was.
+pub fn wave_source(state: StreamPlayer, core: usize, channel: usize) -> WaveSource
+    ensures { λ r. ⌜ r ≡ waveSource state core channel ⌝ }
+{
+    if core < 2 {
+        if channel < 8 {
+            let progress = state.progress;
+            let i = core * 8 + channel;
+            return progress.wave_sources[i];
+        }
+    }
+    WaveSource {
+        copied: false,
+        pool: 0,
+    }
+}
+
+// The progress at a cursor, with so many operations done, and so many writes of the operation there.
+pub fn placed(
+    progress: Progress,
+    cursor: usize,
+    operations: u32,
+    writes: u32,
+    waves: [WaveSource; 16],
+) -> Progress
+    ensures { λ r. ⌜ r ≡ placed progress cursor operations writes waves ⌝ }
+{
+    let part = progress.part;
+    Progress {
+        part: part,
+        cursor: cursor,
+        operation_index: operations,
+        operation_count: progress.operation_count,
+        write_index: writes,
+        frame_index: progress.frame_index,
+        initialized: progress.initialized,
+        finished: progress.finished,
+        wave_sources: waves,
+    }
+}
+
+// The closing writes, with so many made.
+pub fn closing_at(progress: Progress, writes: u32, finished: bool) -> Progress
+    ensures { λ r. ⌜ r ≡ closingAt writes finished progress ⌝ }
+{
+    let waves = progress.wave_sources;
+    Progress {
+        part: Part::Closing,
+        cursor: progress.cursor,
+        operation_index: 0,
+        operation_count: 0,
+        write_index: writes,
+        frame_index: progress.frame_index,
+        initialized: true,
+        finished: finished,
+        wave_sources: waves,
+    }
+}
