@@ -5,11 +5,10 @@ use format::Part;
 use format::Progress;
 use format::StreamPlayer;
 use segments::Place;
-use segments::less;
 ghost use mathlib.Core.Path.{_≡_};
 ghost use lib.Dec.{ltb};
 ghost use lib.ListN.{length};
-ghost use Prim.Native.Nat.{_+_, _<_};
+ghost use Prim.Native.Nat.{_+_, _-_, _<_};
 ghost use Rattle.format.specs.Player.{operationsLeft};
 ghost use Rattle.begin.specs.Begin.{nowhere, closingCount, closingFrom, framePlace, frameAt, openingPlace, betweenPlace, partPlace, firstPlace};
 
@@ -62,14 +61,24 @@ fn closing_count(uses_si22: bool) -> usize
     32
 }
 
+// How many of them are left behind so many.
+fn closing_left(uses_si22: bool, done: u32) -> usize
+    ensures { λ r. ⌜ r ≡ closingCount «uses_si22» - done ⌝ }
+{
+    let count = closing_count(uses_si22);
+    if count < done as usize {
+        return 0;
+    }
+    count - done as usize
+}
+
 // The closing writes behind so many.
 fn closing_from(state: StreamPlayer, done: u32, total: usize) -> Place
     ensures { λ r. ⌜ r ≡ closingFrom state done total ⌝ }
 {
-    let count = closing_count(state.uses_si22);
     Place {
         closing: true,
-        left: less(count, done as usize),
+        left: closing_left(state.uses_si22, done),
         opening: 0,
         after: 0,
         cursor: 0,
