@@ -8,7 +8,7 @@ use Rattle.format.specs.declared.player.Part.{Part}
 use Rattle.format.specs.declared.player.Part.the-variants.{Between, Opening, Frame, Closing}
 use Rattle.format.specs.declared.player.Progress.{Progress}
 use Rattle.format.specs.declared.player.StreamPlayer.{StreamPlayer}
-use Rattle.format.specs.Checked.{Checked, _>>_}
+use Rattle.format.specs.Checked.{_>>_}
 use Rattle.format.specs.Pace.{planFrame, planOpening, planClosing, plan, planned}
 use Rattle.format.specs.Player.{openingBegun, closingAt, belongs, as25}
 use Rattle.plan.specs.Told.{planBetween, planBegun}

@@ -1,18 +1,21 @@
 -- Laws of the answer of a call: which number a refusal has does not matter.
-use Prim.Native.Nat.{ℕ, _+_, _-_, min}
+use Prim.Native.Nat.{ℕ, _+_, _-_}
 use mathlib.Core.Bool.{Bool, true, false, cond}
 use mathlib.Core.List.{List}
 use mathlib.Core.Path.{_≡_, refl, ap, _∙_}
-use lib.Dec.{leb, ltb}
+use lib.Dec.{eqb, ltb}
+use lib.ListN.{length}
 use Rattle.format.specs.declared.player.Progress.{Progress}
 use Rattle.format.specs.declared.player.StreamPlayer.{StreamPlayer}
 use Rattle.format.specs.Checked.{Checked, ok, refused, refuse, _>>=_, _>>_}
-use Rattle.format.specs.Pace.{Plan, planFrame, planClosing}
-use Rattle.format.specs.Player.{frameBegun, closingAt, as25}
+use Rattle.format.specs.Pace.{Plan, paced, planFrame, planClosing}
+use Rattle.format.specs.Player.{frameBegun, frameEnded, operationsLeft, as25}
 use Rattle.format.specs.State.{moved}
+use Rattle.pace.specs.declared.operations.Paced.{Paced}
+use Rattle.pace.specs.Told.{paceOf}
 use Rattle.plan.specs.declared.call.CallPlan.{CallPlan}
 use Rattle.plan.specs.declared.taken.Taken.{Taken}
-use Rattle.plan.specs.Told.{noPlan, planTold, nothing, takenTold, planBegun, behind, closingTaken}
+use Rattle.plan.specs.Told.{noPlan, planTold, nothing, takenTold, takenBy, ended, planBegun, behind, closingTaken}
 
 pub told-25 : (state : StreamPlayer) (answer : Checked Plan) → planTold state (as25 answer) ≡ planTold state answer
 told-25 state (ok plan) = refl
@@ -30,6 +33,23 @@ later count answer =
 later-told : (state : StreamPlayer) (count : ℕ) (t : Taken) (b : Bool) → t .refused ≡ b → takenTold state (behind count t) ≡ later count (takenTold state t)
 later-told state count t true e = rw e
 later-told state count t false e = rw e
+
+-- a frame, with no operation left or some
+frame-done : (state : StreamPlayer) (count : ℕ) (p : Progress) (no done : Bool) → takenTold state (cond done (record { refused = no; count = count; complete = true; progress = frameEnded p }) (record { refused = no; count = count; complete = false; progress = p })) ≡ cond no (noPlan state) (record { refused = false; count = count; complete = done; next = moved state (cond done (frameEnded p) p) })
+frame-done state count p true true = refl
+frame-done state count p true false = refl
+frame-done state count p false true = refl
+frame-done state count p false false = refl
+
+pub told-frame : (state : StreamPlayer) (file : List ℕ) (room : ℕ) (p : Progress) (r : Paced) → paceOf r ≡ as25 (paced state file (length file) (operationsLeft p) room p) → takenTold state (ended (takenBy room r)) ≡ planTold state (planFrame state file room p)
+unfolding planFrame
+told-frame state file room p r e =
+    rw (told-bind state (paced state file (length file) (operationsLeft p) room p), ← e)
+    (frame-done state (room - r .room) (r .progress) (r .refused) (eqb (operationsLeft (r .progress)) 0) ∙ go (r .refused))
+  where
+    go : (no : Bool) → cond no (noPlan state) (record { refused = false; count = room - r .room; complete = eqb (operationsLeft (r .progress)) 0; next = moved state (cond (eqb (operationsLeft (r .progress)) 0) (frameEnded (r .progress)) (r .progress)) }) ≡ planTold state (cond no (refused 25 0) (ok (r .room, r .progress)) >>= λ (found : ℕ × Progress). ok (record { count = room - found .0; complete = eqb (operationsLeft (found .1)) 0; next = moved state (cond (eqb (operationsLeft (found .1)) 0) (frameEnded (found .1)) (found .1)) }))
+    go true = refl
+    go false = refl
 
 -- a frame that begins behind so many writes
 pub told-behind : (state : StreamPlayer) (file : List ℕ) (count room cursor : ℕ) (p : Progress) (t : Taken) → takenTold state t ≡ planTold state (planBegun state file room cursor 0 p) → takenTold state (behind count t) ≡ planTold state (frameBegun file cursor 0 p >>= λ (frame : Progress). planFrame state file room frame >>= λ (more : Plan). ok (record { count = count + more .count; complete = more .complete; next = more .next }))

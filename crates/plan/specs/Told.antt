@@ -2,15 +2,16 @@
 use Prim.Native.Nat.{ℕ, _+_, _-_, min}
 use mathlib.Core.Bool.{Bool, true, false, cond}
 use mathlib.Core.List.{List}
-use lib.Dec.{leb, ltb}
+use lib.Dec.{eqb, leb, ltb}
 use Rattle.format.specs.declared.player.Part.{Part}
 use Rattle.format.specs.declared.player.Part.the-variants.{Between}
 use Rattle.format.specs.declared.player.Progress.{Progress}
 use Rattle.format.specs.declared.player.StreamPlayer.{StreamPlayer}
 use Rattle.format.specs.Checked.{Checked, ok, refused, _>>=_}
 use Rattle.format.specs.Pace.{Plan, planFrame, plan}
-use Rattle.format.specs.Player.{frameBegun, closingAt}
+use Rattle.format.specs.Player.{frameBegun, frameEnded, closingAt, operationsLeft}
 use Rattle.format.specs.State.{moved}
+use Rattle.pace.specs.declared.operations.Paced.{Paced}
 use Rattle.plan.specs.declared.call.CallPlan.{CallPlan}
 use Rattle.plan.specs.declared.taken.Taken.{Taken}
 
@@ -35,10 +36,18 @@ abbrev pub takenTold : StreamPlayer → Taken → CallPlan
 takenTold state t =
     cond (t .refused) (noPlan state) (record { refused = false; count = t .count; complete = t .complete; next = moved state (t .progress) })
 
+-- of the room that was left of so much
+abbrev pub takenBy : (room : ℕ) → Paced → Taken
+takenBy room r = record { refused = r .refused; count = room - r .room; complete = false; progress = r .progress }
+
+-- the vsync is complete where no operation of its frame is left
+abbrev pub ended : Taken → Taken
+ended t =
+    cond (eqb (operationsLeft (t .progress)) 0) (record { refused = t .refused; count = t .count; complete = true; progress = frameEnded (t .progress) }) t
+
 -- behind so many writes
 abbrev pub behind : (count : ℕ) → Taken → Taken
-behind count t =
-    cond (t .refused) t (record { refused = false; count = count + t .count; complete = t .complete; progress = t .progress })
+behind count t = record { refused = t .refused; count = count + t .count; complete = t .complete; progress = t .progress }
 
 -- of the closing writes
 abbrev pub closingTaken : (si22 : Bool) → (room : ℕ) → Progress → Taken

@@ -1,11 +1,11 @@
 // The plan of a call, by the part that is playing.
-use crate::belongs::foreign;
 use crate::closing::plan_closing;
 use crate::frame::begin_frame;
 use crate::frame::plan_frame;
 use crate::opening::plan_opening;
 use crate::progress::begun;
 use crate::taken::Taken;
+use belongs::foreign;
 use format::Part;
 use format::Progress;
 use format::StreamPlayer;
@@ -25,13 +25,12 @@ pub struct CallPlan {
 fn plan_between(file: &[u8], state: StreamPlayer, room: usize, progress: Progress) -> Taken
     ensures { λ r. ⌜ takenTold state r ≡ planTold state (planBetween state (now (file .entry)) room progress) ⌝ }
 {
-    let header = state.header;
     if !progress.initialized {
-        let opening = header.initial_start as usize;
+        let opening = state.header.initial_start as usize;
         let start = begun(
             Part::Opening,
             opening,
-            header.initial_count,
+            state.header.initial_count,
             0,
             false,
             progress,
@@ -39,11 +38,11 @@ fn plan_between(file: &[u8], state: StreamPlayer, room: usize, progress: Progres
         return plan_opening(file, state, room, start);
     }
     let frame = progress.frame_index;
-    if frame < header.frame_count {
+    if frame < state.header.frame_count {
         return begin_frame(file, state, room, progress.cursor, frame, progress);
     }
-    if header.repeat {
-        return begin_frame(file, state, room, header.frame_start, 0, progress);
+    if state.header.repeat {
+        return begin_frame(file, state, room, state.header.frame_start, 0, progress);
     }
     plan_closing(state.uses_si22, room, progress.closing_at(0, false))
 }

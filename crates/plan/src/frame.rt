@@ -2,6 +2,7 @@
 use crate::progress::begun;
 use crate::taken::Taken;
 use crate::taken::refused_part;
+use crate::taken::taken_by;
 use big_endian::read_u16;
 use format::Part;
 use format::Progress;
@@ -11,39 +12,37 @@ use pace::pace;
 ghost use mathlib.Core.Path.{_≡_};
 ghost use Prim.Native.Nat.{_+_, _^_, _≤_, _<_};
 ghost use Rattle.format.specs.Pace.{planFrame};
-ghost use Rattle.plan.specs.Told.{planTold, takenTold, planBegun};
+ghost use Rattle.plan.specs.Told.{planTold, takenTold, ended, planBegun};
+
+// The vsync is complete where no operation of its frame is left.
+fn ended(taken: Taken) -> Taken
+    ensures { λ r. ⌜ (r ≡ ended taken) × (r .count ≡ taken .count) ⌝ }
+{
+    let progress = taken.progress;
+    if operations_left(progress) != 0 {
+        return taken;
+    }
+    let over = begun(
+        Part::Between,
+        progress.cursor,
+        0,
+        progress.frame_index,
+        true,
+        progress,
+    );
+    Taken {
+        refused: taken.refused,
+        count: taken.count,
+        complete: true,
+        progress: over,
+    }
+}
 
 pub fn plan_frame(file: &[u8], state: StreamPlayer, room: usize, progress: Progress) -> Taken
     ensures { λ r. ⌜ (takenTold state r ≡ planTold state (planFrame state (now (file .entry)) room progress)) × (r .count ≤ room) ⌝ }
 {
     let paced = pace(file, state, file.len(), room, progress);
-    if paced.refused {
-        return refused_part(progress);
-    }
-    let after = paced.progress;
-    let count = room - paced.room;
-    if operations_left(after) == 0 {
-        let ended = begun(
-            Part::Between,
-            after.cursor,
-            0,
-            after.frame_index,
-            true,
-            after,
-        );
-        return Taken {
-            refused: false,
-            count: count,
-            complete: true,
-            progress: ended,
-        };
-    }
-    Taken {
-        refused: false,
-        count: count,
-        complete: false,
-        progress: after,
-    }
+    ended(taken_by(room, paced))
 }
 
 // A frame, counted from 0, that begins at the cursor.

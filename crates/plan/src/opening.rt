@@ -2,47 +2,42 @@
 use crate::frame::begin_frame;
 use crate::taken::Taken;
 use crate::taken::behind;
-use crate::taken::refused_part;
-use format::Header;
+use crate::taken::taken_by;
 use format::Progress;
 use format::StreamPlayer;
 use pace::operations_left;
 use pace::pace;
 ghost use mathlib.Core.Path.{_≡_};
+ghost use mathlib.Core.Bool.{cond};
+ghost use lib.Dec.{eqb};
+ghost use lib.ListN.{length};
 ghost use Rattle.format.specs.Pace.{planOpening};
-ghost use Rattle.format.specs.Stream.{openingLimit};
 ghost use Rattle.plan.specs.Told.{planTold, takenTold};
 
 // The limit of rule 14 for the opening.
-fn opening_limit(file: &[u8], header: Header) -> usize
-    ensures { λ r. ⌜ r ≡ openingLimit header (now (file .entry)) ⌝ }
+fn opening_limit(file: &[u8], version: u8, frame_start: usize) -> usize
+    ensures { λ r. ⌜ r ≡ cond (eqb version 1) (length (now (file .entry))) «frame_start» ⌝ }
 {
-    if header.version == 1 {
+    if version == 1 {
         return file.len();
     }
-    header.frame_start
+    frame_start
 }
 
 pub fn plan_opening(file: &[u8], state: StreamPlayer, room: usize, progress: Progress) -> Taken
     ensures { λ r. ⌜ takenTold state r ≡ planTold state (planOpening state (now (file .entry)) room progress) ⌝ }
 {
-    let header = state.header;
-    let limit = opening_limit(file, header);
+    let frame_start = state.header.frame_start;
+    let limit = opening_limit(file, state.header.version, frame_start);
     let paced = pace(file, state, limit, room, progress);
+    let taken = taken_by(room, paced);
     if paced.refused {
-        return refused_part(progress);
+        return taken;
     }
     let after = paced.progress;
-    let left = paced.room;
-    let count = room - left;
     if operations_left(after) != 0 {
-        return Taken {
-            refused: false,
-            count: count,
-            complete: false,
-            progress: after,
-        };
+        return taken;
     }
-    let more = begin_frame(file, state, left, header.frame_start, 0, after);
-    behind(count, more)
+    let more = begin_frame(file, state, paced.room, frame_start, 0, after);
+    behind(taken.count, more)
 }

@@ -1,8 +1,9 @@
 // What a call takes of the part that is playing, before it is put into the state.
 use format::Progress;
+use pace::Paced;
 ghost use mathlib.Core.Path.{_≡_};
-ghost use Prim.Native.Nat.{_+_, _^_, _<_};
-ghost use Rattle.plan.specs.Told.{nothing, behind};
+ghost use Prim.Native.Nat.{_+_, _^_, _≤_, _<_};
+ghost use Rattle.plan.specs.Told.{nothing, takenBy, behind};
 
 // How many writes, whether the vsync is then complete, and the progress; or refusal 25.
 pub struct Taken {
@@ -24,17 +25,28 @@ pub fn refused_part(progress: Progress) -> Taken
     }
 }
 
+// What is taken of the room that was left of so much.
+pub fn taken_by(room: usize, paced: Paced) -> Taken
+    requires { ⌜ paced .room ≤ room ⌝ }
+    ensures { λ r. ⌜ r ≡ takenBy room paced ⌝ }
+{
+    let progress = paced.progress;
+    Taken {
+        refused: paced.refused,
+        count: room - paced.room,
+        complete: false,
+        progress: progress,
+    }
+}
+
 // What is taken behind so many writes.
 pub fn behind(count: usize, more: Taken) -> Taken
     requires { ⌜ count + more .count < 2 ^ 64 ⌝ }
     ensures { λ r. ⌜ r ≡ behind count more ⌝ }
 {
-    if more.refused {
-        return more;
-    }
     let progress = more.progress;
     Taken {
-        refused: false,
+        refused: more.refused,
         count: count + more.count,
         complete: more.complete,
         progress: progress,

@@ -16,7 +16,7 @@ plan-opening-requires c κs = search needs
 
 returns : tie.Need-returns
 returns c =
-    let a = c .before .before .before .before .before .before .before .args in
+    let a = c .before .before .before .before .before .before .args in
     rw (begins-opening (a .state) (a .file .now) (a .room) (a .progress) (c .before .before .before .if1 .taken), ← (c .before .begun .ensures)) (c .plan-opening .ensures)
 
 begin-frame-requires : tie.Need-begin-frame-requires
@@ -24,7 +24,7 @@ begin-frame-requires c κs = search needs
 
 returns-2 : tie.Need-returns-2
 returns-2 c =
-    let a = c .before .before .before .before .before .before .before .args in
+    let a = c .before .before .before .before .before .before .args in
     rw (begins-frame (a .state) (a .file .now) (a .room) (a .progress) (c .before .before .before .if1 .left) (c .before .if2 .taken)) (c .begin-frame .ensures .0)
 
 begin-frame-requires-2 : tie.Need-begin-frame-requires-2
@@ -32,7 +32,7 @@ begin-frame-requires-2 c κs = search needs
 
 returns-3 : tie.Need-returns-3
 returns-3 c =
-    let a = c .before .before .before .before .before .before .before .before .args in
+    let a = c .before .before .before .before .before .before .before .args in
     rw (begins-again (a .state) (a .file .now) (a .room) (a .progress) (c .before .before .before .before .if1 .left) (c .before .before .if2 .left) (c .before .if3 .taken)) (c .begin-frame2 .ensures .0)
 
 closing-at-requires : tie.Need-closing-at-requires
@@ -43,7 +43,7 @@ plan-closing-requires c κs = search needs
 
 returns-4 : tie.Need-returns-4
 returns-4 c =
-    let a = c .before .before .before .before .before .before .before .before .before .args in
+    let a = c .before .before .before .before .before .before .before .before .args in
     rw (begins-closing (a .state) (a .file .now) (a .room) (a .progress) (c .before .before .before .before .before .if1 .left) (c .before .before .before .if2 .left) (c .before .before .if3 .left), ← (c .before .closing-at .ensures), c .plan-closing .ensures) (told-closing (a .state) (a .room) (c .before .closing-at .result))
 
 pub plan-between-spec : {M : Type 1} → statement M

@@ -1,15 +1,12 @@
 -- `plan::opening::opening_limit` meets its contract. Assumes nothing.
 use borrow.Author.Tests.{eq-eqb, ne-eqb}
-use Rattle.format.specs.Stream.{openingLimit}
 use Rattle.plan.proofs.opening.opening_limit.Statement.{statement}
 use Rattle.plan.proofs.opening.opening_limit.Tie as tie
 
 returns : tie.Need-returns
-unfolding openingLimit
 returns c = rw (eq-eqb _ _ (c .if1 .taken))
 
 returns-2 : tie.Need-returns-2
-unfolding openingLimit
 returns-2 c = rw (ne-eqb _ _ (c .if1 .left))
 
 pub opening-limit-spec : {M : Type 1} → statement M

@@ -1,9 +1,13 @@
 -- `plan::opening::plan_opening` meets its contract. Assumes nothing.
 use borrow.Author.Needs.{needs}
+use native.Mathlib.Omega.{arith}
 use borrow.Author.Tests.{eq-eqb, ne-eqb}
 use Prim.Native.Nat.{_-_}
 use Rattle.format.specs.Pace.{planOpening}
+use Rattle.format.specs.Stream.{openingLimit}
 use Rattle.plan.proofs.Telling.{told-bind, told-behind}
+use mathlib.Core.Path.{ap}
+use Rattle.plan.specs.declared.taken.Taken.{Taken}
 use Rattle.plan.proofs.opening.plan_opening.Statement.{statement}
 use Rattle.plan.proofs.opening.plan_opening.Tie as tie
 
@@ -13,39 +17,40 @@ opening-limit-requires c κs = search needs
 pace-requires : tie.Need-pace-requires
 pace-requires c κs = search needs
 
-refused-part-requires : tie.Need-refused-part-requires
-refused-part-requires c κs = search needs
+taken-by-requires : tie.Need-taken-by-requires
+taken-by-requires c κs = search needs
 
 returns : tie.Need-returns
-unfolding planOpening
-returns c = rw (told-bind, ← (c .before .before .before .opening-limit .ensures), ← (c .before .before .pace .ensures .0), c .before .if1 .taken, c .refused-part .ensures)
-
-sub-count : tie.Need-sub-count
-sub-count c = search needs
+unfolding planOpening openingLimit
+returns c = rw (told-bind, ← (c .before .before .before .opening-limit .ensures), ← (c .before .before .pace .ensures .0), c .before .taken-by .ensures, c .if1 .taken)
 
 operations-left-requires : tie.Need-operations-left-requires
 operations-left-requires c κs = search needs
 
 returns-2 : tie.Need-returns-2
-unfolding planOpening
+unfolding planOpening openingLimit
 returns-2 c =
     let left = c .before in
-    let pace = left .before .before .before in
-    rw (told-bind, ← (pace .before .opening-limit .ensures), ← (pace .pace .ensures .0), left .before .before .if1 .left, ← (left .operations-left .ensures .0), ne-eqb _ _ (c .if2 .taken))
+    let taken = left .before .before .before in
+    let pace = taken .before in
+    rw (told-bind, ← (pace .before .opening-limit .ensures), ← (pace .pace .ensures .0), taken .taken-by .ensures, left .before .before .if1 .left, ← (left .operations-left .ensures .0), ne-eqb _ _ (c .if2 .taken))
 
 begin-frame-requires : tie.Need-begin-frame-requires
 begin-frame-requires c κs = search needs
 
 behind-requires : tie.Need-behind-requires
-behind-requires c κs = search needs
+behind-requires c κs =
+    let pace = c .before .before .before .before .before .before in
+    omega (arith, ap (λ (t : Taken). t .count) (c .before .before .before .before .before .taken-by .ensures))
 
 returns-3 : tie.Need-returns-3
-unfolding planOpening
+unfolding planOpening openingLimit
 returns-3 c =
     let left = c .before .before .before in
-    let pace = left .before .before .before in
-    let a = pace .before .before .before .before .args in
-    rw (told-bind, ← (pace .before .opening-limit .ensures), ← (pace .pace .ensures .0), left .before .before .if1 .left, ← (left .operations-left .ensures .0), eq-eqb _ _ (c .before .before .if2 .left), c .behind .ensures) (told-behind (a .state) (a .file .now) (a .room - pace .pace .result .room) (pace .pace .result .room) (a .state .header .«frame_start») (pace .pace .result .progress) (c .before .begin-frame .result) (c .before .begin-frame .ensures .0))
+    let taken = left .before .before .before in
+    let pace = taken .before in
+    let a = pace .before .before .before .args in
+    rw (told-bind, ← (pace .before .opening-limit .ensures), ← (pace .pace .ensures .0), left .before .before .if1 .left, ← (left .operations-left .ensures .0), eq-eqb _ _ (c .before .before .if2 .left), c .behind .ensures, taken .taken-by .ensures) (told-behind (a .state) (a .file .now) (a .room - pace .pace .result .room) (pace .pace .result .room) (a .state .header .«frame_start») (pace .pace .result .progress) (c .before .begin-frame .result) (c .before .begin-frame .ensures .0))
 
 pub plan-opening-spec : {M : Type 1} → statement M
 plan-opening-spec =
@@ -53,9 +58,8 @@ plan-opening-spec =
     (tie.spec
     opening-limit-requires
     pace-requires
-    refused-part-requires
+    taken-by-requires
     returns
-    sub-count
     operations-left-requires
     returns-2
     begin-frame-requires

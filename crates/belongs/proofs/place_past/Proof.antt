@@ -1,7 +1,7 @@
--- `plan::belongs::place_past` meets its contract. Assumes nothing.
+-- `belongs::place_past` meets its contract. Assumes nothing.
 use Rattle.format.proofs.Decided.{decided}
-use Rattle.plan.proofs.belongs.place_past.Statement.{statement}
-use Rattle.plan.proofs.belongs.place_past.Tie as tie
+use Rattle.belongs.proofs.place_past.Statement.{statement}
+use Rattle.belongs.proofs.place_past.Tie as tie
 
 returns : tie.Need-returns
 returns c = search decided

@@ -1,9 +1,9 @@
--- `plan::belongs::foreign` meets its contract. Assumes nothing.
+-- `belongs::foreign` meets its contract. Assumes nothing.
 use borrow.Author.Needs.{needs}
 use borrow.Author.Tests.{eq-eqb, ne-eqb}
 use Rattle.format.specs.Player.{belongs}
-use Rattle.plan.proofs.belongs.foreign.Statement.{statement}
-use Rattle.plan.proofs.belongs.foreign.Tie as tie
+use Rattle.belongs.proofs.foreign.Statement.{statement}
+use Rattle.belongs.proofs.foreign.Tie as tie
 
 cast-if1 : tie.Need-cast-if1
 cast-if1 c = search needs

@@ -1,5 +1,4 @@
-// Whether a state belongs to a file.
-use format::Progress;
+// Whether a state belongs to a file: its recorded size, version and card count, its places and its counters (25).
 use format::StreamPlayer;
 ghost use mathlib.Core.Path.{_≡_};
 ghost use mathlib.Core.Bool.{_||_};

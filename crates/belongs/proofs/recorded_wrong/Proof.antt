@@ -1,7 +1,7 @@
--- `plan::belongs::recorded_wrong` meets its contract. Assumes nothing.
+-- `belongs::recorded_wrong` meets its contract. Assumes nothing.
 use Rattle.format.proofs.Decided.{decided}
-use Rattle.plan.proofs.belongs.recorded_wrong.Statement.{statement}
-use Rattle.plan.proofs.belongs.recorded_wrong.Tie as tie
+use Rattle.belongs.proofs.recorded_wrong.Statement.{statement}
+use Rattle.belongs.proofs.recorded_wrong.Tie as tie
 
 returns : tie.Need-returns
 returns c = search decided
