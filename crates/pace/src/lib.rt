@@ -6,3 +6,4 @@ mod waves;
 pub use operations::Paced;
 pub use operations::operations_left;
 pub use operations::pace;
+pub use waves::count_of;

@@ -1,7 +1,6 @@
 // One segment of a call's records, and the place behind it.
 use crate::closing::closing_segment;
 use crate::of_operation::address_of;
-use crate::of_operation::count_of;
 use crate::of_operation::segment_of;
 use crate::of_operation::unplayable;
 use crate::place::Place;
@@ -15,6 +14,7 @@ use format::Operation;
 use format::StreamPlayer;
 use operation::OperationRead;
 use operation::read_item;
+use pace::count_of;
 ghost use mathlib.Core.Path.{_≡_};
 ghost use Rattle.segments.specs.Turn.{limitAt, halted, closingTurn, operationTurn, turnOf, turn};
 
