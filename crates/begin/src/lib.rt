@@ -2,39 +2,13 @@
 use big_endian::read_u16;
 use format::Header;
 use format::Part;
-use format::Progress;
 use format::StreamPlayer;
+use pace::operations_left;
 use segments::Place;
-use segments::less;
+use writes::passes;
 ghost use mathlib.Core.Path.{_≡_};
-ghost use lib.Dec.{ltb};
-ghost use lib.ListN.{length};
-ghost use Prim.Native.Nat.{_+_, _<_};
-ghost use Rattle.format.specs.Player.{operationsLeft};
+ghost use Prim.Native.Nat.{_-_, _<_};
 ghost use Rattle.begin.specs.Begin.{nowhere, closingCount, closingFrom, framePlace, frameAt, openingPlace, betweenPlace, partPlace, firstPlace};
-
-// The operations of a part that are left.
-fn operations_left(progress: Progress) -> u32
-    ensures { λ r. ⌜ r ≡ operationsLeft progress ⌝ }
-{
-    if progress.operation_count < progress.operation_index {
-        return 0;
-    }
-    progress.operation_count - progress.operation_index
-}
-
-// Whether a frame's count lacks bytes before the file's end.
-fn count_cut_off(file: &[u8], at: usize) -> bool
-    ensures { λ r. ⌜ r ≡ ltb (length (now (file .entry))) (at + 2) ⌝ }
-{
-    if file.len() < 2 {
-        return true;
-    }
-    if file.len() - 2 < at {
-        return true;
-    }
-    false
-}
 
 // No record is taken.
 fn nowhere(total: usize) -> Place
@@ -62,14 +36,24 @@ fn closing_count(uses_si22: bool) -> usize
     32
 }
 
+// How many of them are left behind so many.
+fn closing_left(uses_si22: bool, done: u32) -> usize
+    ensures { λ r. ⌜ r ≡ closingCount «uses_si22» - done ⌝ }
+{
+    let count = closing_count(uses_si22);
+    if count < done as usize {
+        return 0;
+    }
+    count - done as usize
+}
+
 // The closing writes behind so many.
 fn closing_from(state: StreamPlayer, done: u32, total: usize) -> Place
     ensures { λ r. ⌜ r ≡ closingFrom state done total ⌝ }
 {
-    let count = closing_count(state.uses_si22);
     Place {
         closing: true,
-        left: less(count, done as usize),
+        left: closing_left(state.uses_si22, done),
         opening: 0,
         after: 0,
         cursor: 0,
@@ -95,11 +79,11 @@ fn frame_place(left: usize, cursor: usize, done: u32, total: usize) -> Place
     }
 }
 
-// The frame whose count stands at a cursor.
+// The frame whose count stands at a cursor; none if it passes the file's end.
 fn frame_at(file: &[u8], cursor: usize, total: usize) -> Place
     ensures { λ r. ⌜ (r ≡ frameAt (now (file .entry)) cursor total) × (r .left < 65536) ⌝ }
 {
-    if count_cut_off(file, cursor) {
+    if passes(file.len(), cursor, 2) {
         return nowhere(total);
     }
     frame_place(read_u16(file, cursor) as usize, cursor + 2, 0, total)

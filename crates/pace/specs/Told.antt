@@ -1,14 +1,19 @@
 -- What the answers of this crate say.
-use Prim.Native.Nat.{ℕ, _+_, _*_, _/_}
+use Prim.Native.Nat.{ℕ, _+_, _*_, _-_, _/_}
 use mathlib.Core.Bool.{true, cond}
 use mathlib.Core.List.{List}
-use lib.Dec.{eqb}
+use lib.Dec.{eqb, ltb}
 use lib.ListN.{set}
 use Rattle.format.specs.declared.operation.Operation.{Operation}
 use Rattle.format.specs.declared.player.Progress.{Progress}
+use Rattle.format.specs.declared.player.StreamPlayer.{StreamPlayer}
 use Rattle.format.specs.declared.player.WaveSource.{WaveSource}
-use Rattle.format.specs.Checked.{Checked, ok, refused}
+use Rattle.format.specs.Checked.{Checked, ok, refused, refuse, _>>=_, _>>_}
+use Rattle.format.specs.Operation.{Item}
+use Rattle.format.specs.Pace.{countOf}
 use Rattle.format.specs.Player.{wavesBy}
+use Rattle.used.specs.Used.{itemUsedBy}
+use Rattle.pace.specs.declared.item.Started.{Started}
 use Rattle.pace.specs.declared.operations.Paced.{Paced}
 
 -- the room that is left and the progress, or refusal 25
@@ -22,3 +27,17 @@ wavesWith waves target address id = set waves (target * 8 + address / 256) (reco
 -- the wave sources once writes of an operation are taken, of which so many were taken before
 abbrev pub wavesNow : List ℕ → (directory : ℕ) → Operation → (writes : ℕ) → List WaveSource → List WaveSource
 wavesNow file directory operation writes waves = cond (eqb writes 0) (wavesBy file directory operation waves) waves
+
+-- an operation of which writes are to be taken: how many are still to be made, the place behind it, and the wave sources
+pub record Start : Type 0 where
+  pub rest : ℕ
+  pub next : ℕ
+  pub waves : List WaveSource
+
+abbrev pub startedOf : Started → Checked Start
+startedOf r = cond (r .refused) (refused 25 0) (ok (record { rest = r .rest; next = r .next; waves = r .waves }))
+
+-- the operation at the cursor, of which so many writes are made
+abbrev pub started : StreamPlayer → List ℕ → (limit cursor writes : ℕ) → List WaveSource → Checked Start
+started state file limit cursor writes waves =
+    itemUsedBy (state .header) (state .cards) file limit cursor >>= λ (item : Item). refuse 25 0 (ltb (countOf (item .operation)) writes) >> ok (record { rest = countOf (item .operation) - writes; next = item .next; waves = wavesNow file (state .header .«directory_offset») (item .operation) writes waves })

@@ -1,14 +1,10 @@
 // The operations that are left of a part, as far as there is room for their writes.
-use crate::waves::count_of;
-use crate::waves::waves_now;
+use crate::item::start;
 use format::Progress;
 use format::StreamPlayer;
 use state::placed;
-use used::ItemUsed;
-use used::item_used;
 ghost use mathlib.Core.Path.{_≡_};
 ghost use Prim.Native.Nat.{_+_, _^_, _≤_, _<_};
-ghost use Rattle.format.specs.Checked.{refused};
 ghost use Rattle.format.specs.Pace.{paced};
 ghost use Rattle.format.specs.Player.{operationsLeft, as25};
 ghost use Rattle.pace.specs.Told.{paceOf};
@@ -32,12 +28,12 @@ pub fn operations_left(progress: Progress) -> u32
     count - done
 }
 
-fn refused_pace(progress: Progress) -> Paced
-    ensures { λ r. ⌜ (paceOf r ≡ refused 25 0) × (r .room ≡ 0) ⌝ }
+fn answer(refused: bool, room: usize, progress: Progress) -> Paced
+    ensures { λ r. ⌜ (r ≡ (record { refused = refused; room = room; progress = progress })) ⌝ }
 {
     Paced {
-        refused: true,
-        room: 0,
+        refused: refused,
+        room: room,
         progress: progress,
     }
 }
@@ -60,44 +56,28 @@ pub fn pace(
     let mut left = operations_left(progress);
     while 0 < left {
         if free == 0 {
-            let after = placed(progress, cursor, operations, writes, waves);
-            return Paced {
-                refused: false,
-                room: 0,
-                progress: after,
-            };
+            return answer(false, 0, placed(progress, cursor, operations, writes, waves));
         }
-        let header = state.header;
-        let cards = state.cards;
-        let ItemUsed::Used { operation, next } = item_used(file, header, cards, limit, cursor)
-        else {
-            return refused_pace(progress);
-        };
-        let count = count_of(operation);
-        if count < writes {
-            return refused_pace(progress);
+        let started = start(file, state, limit, cursor, writes, waves);
+        if started.refused {
+            return answer(true, 0, progress);
         }
-        let set = waves_now(file, header.directory_offset, operation, writes, waves);
+        let set = started.waves;
         waves = set;
-        let rest = count - writes;
+        let rest = started.rest;
         if free < rest as usize {
-            let after = placed(progress, cursor, operations, writes + free as u32, waves);
-            return Paced {
-                refused: false,
-                room: 0,
-                progress: after,
-            };
+            let made = writes + free as u32;
+            return answer(false, 0, placed(progress, cursor, operations, made, waves));
         }
         free -= rest as usize;
-        cursor = next;
+        cursor = started.next;
         operations += 1;
         writes = 0;
         left -= 1;
     }
-    let after = placed(progress, cursor, operations, writes, waves);
-    Paced {
-        refused: false,
-        room: free,
-        progress: after,
-    }
+    answer(
+        false,
+        free,
+        placed(progress, cursor, operations, writes, waves),
+    )
 }

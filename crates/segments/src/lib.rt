@@ -6,5 +6,4 @@ mod turn;
 
 pub use place::Place;
 pub use place::Turn;
-pub use place::less;
 pub use turn::next_segment;

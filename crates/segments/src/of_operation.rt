@@ -1,38 +1,12 @@
 // The writes of one operation as a segment.
 use format::Operation;
+use pace::count_of;
 use pools::read_pool;
 use writes::Segment;
 ghost use mathlib.Core.Path.{_≡_};
-ghost use Rattle.format.specs.Pace.{countOf};
 ghost use Rattle.segments.specs.Operation.{addressOf, unplayable, segmentOf};
 
-// How many writes an operation makes.
-pub fn count_of(operation: Operation) -> u32
-    ensures { λ r. ⌜ r ≡ countOf operation ⌝ }
-{
-    match operation {
-        Operation::Write {
-            target: _,
-            address: _,
-            value: _,
-        } => 1,
-        Operation::Fill {
-            target: _,
-            address: _,
-            length,
-            value: _,
-        } => length,
-        Operation::Copy {
-            target: _,
-            address: _,
-            pool: _,
-            source: _,
-            length,
-        } => length,
-    }
-}
-
-// The address of its first write.
+// The address of an operation's first write.
 pub fn address_of(operation: Operation) -> u32
     ensures { λ r. ⌜ r ≡ addressOf operation ⌝ }
 {

@@ -48,46 +48,44 @@ pub fn no_segment() -> Segment
     }
 }
 
-impl Place {
-    // Nothing is left.
-    pub fn stopped(self) -> Place
-        ensures { λ r. ⌜ r ≡ stopped self ⌝ }
-    {
-        Place {
-            closing: self.closing,
-            left: 0,
-            opening: self.opening,
-            after: self.after,
-            cursor: self.cursor,
-            done: self.done,
-            total: self.total,
-            room: self.room,
-        }
+// Nothing is left.
+pub fn stopped(place: Place) -> Place
+    ensures { λ r. ⌜ r ≡ stopped place ⌝ }
+{
+    Place {
+        closing: place.closing,
+        left: 0,
+        opening: place.opening,
+        after: place.after,
+        cursor: place.cursor,
+        done: place.done,
+        total: place.total,
+        room: place.room,
     }
+}
 
-    // Where the next operation is: at the cursor, unless it is the frame's first one.
-    fn next_cursor(self, cursor: usize) -> usize
-        ensures { λ r. ⌜ r ≡ nextCursor self cursor ⌝ }
-    {
-        if self.opening == 1 {
-            return self.after;
-        }
-        cursor
+// Where the next operation is: at the cursor, unless it is the frame's first one.
+fn next_cursor(place: Place, cursor: usize) -> usize
+    ensures { λ r. ⌜ r ≡ nextCursor place cursor ⌝ }
+{
+    if place.opening == 1 {
+        return place.after;
     }
+    cursor
+}
 
-    // One closing write or operation more is done, and so many records are taken.
-    pub fn onward(self, cursor: usize, taken: usize) -> Place
-        ensures { λ r. ⌜ r ≡ onward self cursor taken ⌝ }
-    {
-        Place {
-            closing: self.closing,
-            left: less(self.left, 1),
-            opening: less(self.opening, 1),
-            after: self.after,
-            cursor: self.next_cursor(cursor),
-            done: 0,
-            total: self.total,
-            room: less(self.room, taken),
-        }
+// One closing write or operation more is done, and so many records are taken.
+pub fn onward(place: Place, cursor: usize, taken: usize) -> Place
+    ensures { λ r. ⌜ r ≡ onward place cursor taken ⌝ }
+{
+    Place {
+        closing: place.closing,
+        left: less(place.left, 1),
+        opening: less(place.opening, 1),
+        after: place.after,
+        cursor: next_cursor(place, cursor),
+        done: 0,
+        total: place.total,
+        room: less(place.room, taken),
     }
 }

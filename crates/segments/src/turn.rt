@@ -1,18 +1,20 @@
 // One segment of a call's records, and the place behind it.
 use crate::closing::closing_segment;
 use crate::of_operation::address_of;
-use crate::of_operation::count_of;
 use crate::of_operation::segment_of;
 use crate::of_operation::unplayable;
 use crate::place::Place;
 use crate::place::Turn;
 use crate::place::less;
 use crate::place::no_segment;
+use crate::place::onward;
+use crate::place::stopped;
 use format::Header;
 use format::Operation;
 use format::StreamPlayer;
 use operation::OperationRead;
 use operation::read_item;
+use pace::count_of;
 ghost use mathlib.Core.Path.{_≡_};
 ghost use Rattle.segments.specs.Turn.{limitAt, halted, closingTurn, operationTurn, turnOf, turn};
 
@@ -34,7 +36,7 @@ fn halted(place: Place) -> Turn
     ensures { λ r. ⌜ r ≡ halted place ⌝ }
 {
     let segment = no_segment();
-    let end = place.stopped();
+    let end = stopped(place);
     Turn {
         at: less(place.total, place.room),
         segment: segment,
@@ -49,14 +51,14 @@ fn closing_turn(place: Place) -> Turn
     let segment = closing_segment(place.left);
     let at = less(place.total, place.room);
     if place.room <= 1 {
-        let end = place.stopped();
+        let end = stopped(place);
         return Turn {
             at: at,
             segment: segment,
             place: end,
         };
     }
-    let next = place.onward(place.cursor, 1);
+    let next = onward(place, place.cursor, 1);
     Turn {
         at: at,
         segment: segment,
@@ -83,7 +85,7 @@ fn operation_turn(
     let at = less(place.total, place.room);
     if place.room <= rest {
         let segment = segment_of(file, directory, operation, address, done, place.room);
-        let end = place.stopped();
+        let end = stopped(place);
         return Turn {
             at: at,
             segment: segment,
@@ -91,11 +93,11 @@ fn operation_turn(
         };
     }
     let segment = segment_of(file, directory, operation, address, done, rest);
-    let onward = place.onward(next, rest);
+    let behind = onward(place, next, rest);
     Turn {
         at: at,
         segment: segment,
-        place: onward,
+        place: behind,
     }
 }
 

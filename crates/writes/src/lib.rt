@@ -16,7 +16,7 @@ pub struct Segment {
 }
 
 // Whether so many elements from a place on pass a size.
-fn passes(size: usize, at: usize, count: usize) -> bool
+pub fn passes(size: usize, at: usize, count: usize) -> bool
     ensures { λ r. ⌜ r ≡ ltb size (at + count) ⌝ }
 {
     if size < at {

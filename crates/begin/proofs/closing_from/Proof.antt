@@ -3,14 +3,11 @@ use borrow.Author.Needs.{needs}
 use Rattle.begin.proofs.closing_from.Statement.{statement}
 use Rattle.begin.proofs.closing_from.Tie as tie
 
-closing-count-requires : tie.Need-closing-count-requires
-closing-count-requires c κs = search needs
-
-less-requires : tie.Need-less-requires
-less-requires c κs = search needs
+closing-left-requires : tie.Need-closing-left-requires
+closing-left-requires c κs = search needs
 
 returns : tie.Need-returns
-returns c = simp (← (c .before .closing-count .ensures), ← (c .less .ensures))
+returns c = simp (← (c .closing-left .ensures))
 
 pub closing-from-spec : {M : Type 1} → statement M
-closing-from-spec = tie.close (tie.spec closing-count-requires less-requires returns)
+closing-from-spec = tie.close (tie.spec closing-left-requires returns)

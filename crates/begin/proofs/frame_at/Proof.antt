@@ -9,15 +9,15 @@ use Rattle.begin.specs.Begin.{frameAt}
 use Rattle.begin.proofs.frame_at.Statement.{statement}
 use Rattle.begin.proofs.frame_at.Tie as tie
 
-count-cut-off-requires : tie.Need-count-cut-off-requires
-count-cut-off-requires c κs = search needs
+passes-requires : tie.Need-passes-requires
+passes-requires c κs = search needs
 
 nowhere-requires : tie.Need-nowhere-requires
 nowhere-requires c κs = search needs
 
 returns : tie.Need-returns
 unfolding frameAt
-returns c = (simp (← (c .before .before .count-cut-off .ensures), c .before .if1 .taken, ← (c .nowhere .ensures)), rw (c .nowhere .ensures) (omega arith))
+returns c = (simp (← (c .before .before .passes .ensures), c .before .if1 .taken, ← (c .nowhere .ensures)), rw (c .nowhere .ensures) (omega arith))
 
 read-u16-requires : tie.Need-read-u16-requires
 read-u16-requires c κs = search needs
@@ -26,20 +26,20 @@ cast-frame-place : tie.Need-cast-frame-place
 cast-frame-place c = search needs
 
 add-frame-place : tie.Need-add-frame-place
-add-frame-place c = omega (arith, ltb-false (length (c .before .before .before .before .args .file .now)) (c .before .before .before .before .args .cursor + 2) (sym (c .before .before .count-cut-off .ensures) ∙ c .before .if1 .left))
+add-frame-place c = omega (arith, ltb-false (length (c .before .before .before .before .args .file .now)) (c .before .before .before .before .args .cursor + 2) (sym (c .before .before .passes .ensures) ∙ c .before .if1 .left))
 
 frame-place-requires : tie.Need-frame-place-requires
 frame-place-requires c κs = search needs
 
 returns-2 : tie.Need-returns-2
 unfolding frameAt
-returns-2 c = (simp (← (c .before .before .before .count-cut-off .ensures), c .before .before .if1 .left, ← (c .before .read-u16 .ensures), ← (c .frame-place .ensures)), rw (c .frame-place .ensures) (omega arith))
+returns-2 c = (simp (← (c .before .before .before .passes .ensures), c .before .before .if1 .left, ← (c .before .read-u16 .ensures), ← (c .frame-place .ensures)), rw (c .frame-place .ensures) (omega arith))
 
 pub frame-at-spec : {M : Type 1} → statement M
 frame-at-spec =
     tie.close
     (tie.spec
-    count-cut-off-requires
+    passes-requires
     nowhere-requires
     returns
     read-u16-requires

@@ -37,10 +37,10 @@ returns : tie.Need-returns
 returns c = simp (c .before .enum-told .given .1, ← (c .between-place .ensures))
 
 returns-2 : tie.Need-returns-2
-returns-2 c = simp (← (c .before .before .before .operations-left .ensures), c .before .enum-told2 .given .1, ← (c .opening-place .ensures))
+returns-2 c = simp (← (c .before .before .before .operations-left .ensures .0), c .before .enum-told2 .given .1, ← (c .opening-place .ensures))
 
 returns-3 : tie.Need-returns-3
-returns-3 c = simp (← (c .before .before .before .operations-left .ensures), c .before .enum-told3 .given .1, ← (c .frame-place .ensures))
+returns-3 c = simp (← (c .before .before .before .operations-left .ensures .0), c .before .enum-told3 .given .1, ← (c .frame-place .ensures))
 
 returns-4 : tie.Need-returns-4
 returns-4 c = simp (c .before .enum-told4 .given .1, ← (c .closing-from .ensures))

@@ -2,7 +2,7 @@
 use borrow.Author.Needs.{needs}
 use native.Mathlib.Omega.{arith}
 use borrow.Author.Tests.{lt-ltb, le-ltb}
-use Prim.Native.Nat.{_≤_, _+_, _^_, _<_}
+use Prim.Native.Nat.{_+_, _^_, _≤_, _<_}
 use mathlib.Core.Path.{_≡_}
 use Rattle.format.specs.Pace.{paced}
 use Rattle.format.specs.Player.{placed, operationsLeft, as25}
@@ -22,79 +22,56 @@ operations-left-requires : tie.Need-operations-left-requires Inv-loop μ-loop
 operations-left-requires c κs = search needs
 
 loop-holds : tie.Need-loop-holds Inv-loop μ-loop
-loop-holds c =
-    (omega arith, c .operations-left .ensures .1, rw (c .operations-left .ensures .0))
+loop-holds c = (omega arith, c .operations-left .ensures .1, rw (c .operations-left .ensures .0))
 
 placed-requires : tie.Need-placed-requires Inv-loop μ-loop
 placed-requires c κs = search needs
 
+answer-requires : tie.Need-answer-requires Inv-loop μ-loop
+answer-requires c κs = search needs
+
 returns : tie.Need-returns Inv-loop μ-loop
 returns c =
-    let l = c .before .before .before in
+    let l = c .before .before .before .before in
     let a = l .before .before .before .before .args in
-    (rw (l .loop .inv .2, c .placed .ensures, c .before .if1 .taken, paced-full (a .state) (a .file .now) (a .limit) (l .loop .left)), omega arith)
+    (rw (l .loop .inv .2, c .answer .ensures, c .before .placed .ensures, c .before .before .if1 .taken, paced-full (a .state) (a .file .now) (a .limit) (l .loop .left)), rw (c .answer .ensures) (omega arith))
 
-item-used-requires : tie.Need-item-used-requires Inv-loop μ-loop
-item-used-requires c κs = search needs
+start-requires : tie.Need-start-requires Inv-loop μ-loop
+start-requires c κs = search needs
 
-enum-known-operation : tie.Need-enum-known-operation Inv-loop μ-loop
-enum-known-operation c = search needs
-
-enum-told : tie.Need-enum-told Inv-loop μ-loop
-enum-told c = search needs
-
-refused-pace-requires : tie.Need-refused-pace-requires Inv-loop μ-loop
-refused-pace-requires c κs = search needs
+answer-requires-2 : tie.Need-answer-requires-2 Inv-loop μ-loop
+answer-requires-2 c κs = search needs
 
 returns-2 : tie.Need-returns-2 Inv-loop μ-loop
 returns-2 c =
-    let item = c .before .before .before in
-    let l = item .before .before .before .before .before in
+    let start = c .before .before in
+    let l = start .before .before .before in
     let a = l .before .before .before .before .args in
     let p = placed (a .progress) (l .loop .cursor) (l .loop .operations) (l .loop .writes) (l .loop .waves) in
-    (rw (l .loop .inv .2, paced-25 (a .state) (a .file .now) (a .limit) (l .loop .left) (l .loop .free) p (omega arith) (omega arith), ← (item .item-used .ensures), c .before .enum-told .given .1) (c .refused-pace .ensures .0), omega (arith, c .refused-pace .ensures .1))
-
-count-of-requires : tie.Need-count-of-requires Inv-loop μ-loop
-count-of-requires c κs = search needs
-
-refused-pace-requires-2 : tie.Need-refused-pace-requires-2 Inv-loop μ-loop
-refused-pace-requires-2 c κs = search needs
-
-returns-3 : tie.Need-returns-3 Inv-loop μ-loop
-returns-3 c =
-    let count = c .before .before in
-    let found = count .before .before in
-    let item = found .before .before in
-    let l = item .before .before .before .before .before in
-    let a = l .before .before .before .before .args in
-    let p = placed (a .progress) (l .loop .cursor) (l .loop .operations) (l .loop .writes) (l .loop .waves) in
-    (rw (l .loop .inv .2, paced-25 (a .state) (a .file .now) (a .limit) (l .loop .left) (l .loop .free) p (omega arith) (omega arith), ← (item .item-used .ensures), found .operation .given .1, ← (count .count-of .ensures), lt-ltb _ _ (c .before .if2 .taken)) (c .refused-pace2 .ensures .0), omega (arith, c .refused-pace2 .ensures .1))
-
-waves-now-requires : tie.Need-waves-now-requires Inv-loop μ-loop
-waves-now-requires c κs = search needs
+    (rw (l .loop .inv .2, paced-25 (a .state) (a .file .now) (a .limit) (l .loop .left) (l .loop .free) p (omega arith) (omega arith), ← (start .start .ensures .0), c .before .if2 .taken, c .answer2 .ensures), rw (c .answer2 .ensures) (omega arith))
 
 cast-if3 : tie.Need-cast-if3 Inv-loop μ-loop
 cast-if3 c = search needs
 
-cast-placed : tie.Need-cast-placed Inv-loop μ-loop
-cast-placed c = search needs
+cast-made : tie.Need-cast-made Inv-loop μ-loop
+cast-made c = search needs
 
-add-placed : tie.Need-add-placed Inv-loop μ-loop
-add-placed c = search needs
+add-made : tie.Need-add-made Inv-loop μ-loop
+add-made c = search needs
 
 placed-requires-2 : tie.Need-placed-requires-2 Inv-loop μ-loop
 placed-requires-2 c κs = search needs
 
-returns-4 : tie.Need-returns-4 Inv-loop μ-loop
-returns-4 c =
-    let waves = c .before .before in
-    let count = waves .before .before in
-    let found = count .before .before in
-    let item = found .before .before in
-    let l = item .before .before .before .before .before in
+answer-requires-3 : tie.Need-answer-requires-3 Inv-loop μ-loop
+answer-requires-3 c κs = search needs
+
+returns-3 : tie.Need-returns-3 Inv-loop μ-loop
+returns-3 c =
+    let start = c .before .before .before .before .before in
+    let l = start .before .before .before in
     let a = l .before .before .before .before .args in
     let p = placed (a .progress) (l .loop .cursor) (l .loop .operations) (l .loop .writes) (l .loop .waves) in
-    (rw (l .loop .inv .2, paced-25 (a .state) (a .file .now) (a .limit) (l .loop .left) (l .loop .free) p (omega arith) (omega arith), ← (item .item-used .ensures), found .operation .given .1, ← (count .count-of .ensures), le-ltb _ _ (waves .before .if2 .left), lt-ltb _ _ (c .before .if3 .taken), ← (waves .waves-now .ensures), c .placed2 .ensures), omega arith)
+    (rw (l .loop .inv .2, paced-25 (a .state) (a .file .now) (a .limit) (l .loop .left) (l .loop .free) p (omega arith) (omega arith), ← (start .start .ensures .0), c .before .before .before .before .if2 .left, lt-ltb _ _ (c .before .before .if3 .taken), c .answer3 .ensures, c .before .placed2 .ensures), rw (c .answer3 .ensures) (omega arith))
 
 cast-free : tie.Need-cast-free Inv-loop μ-loop
 cast-free c = search needs
@@ -103,7 +80,7 @@ sub-free : tie.Need-sub-free Inv-loop μ-loop
 sub-free c = search needs
 
 add-operations : tie.Need-add-operations Inv-loop μ-loop
-add-operations c = omega arith
+add-operations c = search needs
 
 sub-left : tie.Need-sub-left Inv-loop μ-loop
 sub-left c = search needs
@@ -113,24 +90,24 @@ loop-less c = omega arith
 
 loop-again : tie.Need-loop-again Inv-loop μ-loop
 loop-again c =
-    let waves = c .before in
-    let count = waves .before .before in
-    let found = count .before .before in
-    let item = found .before .before in
-    let l = item .before .before .before .before .before in
+    let start = c .before .before .before in
+    let l = start .before .before .before in
     let a = l .before .before .before .before .args in
     let p = placed (a .progress) (l .loop .cursor) (l .loop .operations) (l .loop .writes) (l .loop .waves) in
-    (omega arith, omega arith, rw (l .loop .inv .2, paced-25 (a .state) (a .file .now) (a .limit) (l .loop .left) (l .loop .free) p (omega arith) (omega arith), ← (item .item-used .ensures), found .operation .given .1, ← (count .count-of .ensures), le-ltb _ _ (waves .before .if2 .left), le-ltb _ _ (c .if3 .left), ← (waves .waves-now .ensures)))
+    (omega arith, omega arith, rw (l .loop .inv .2, paced-25 (a .state) (a .file .now) (a .limit) (l .loop .left) (l .loop .free) p (omega arith) (omega arith), ← (start .start .ensures .0), c .before .before .if2 .left, le-ltb _ _ (c .if3 .left)))
 
 placed-requires-3 : tie.Need-placed-requires-3 Inv-loop μ-loop
 placed-requires-3 c κs = search needs
 
-returns-5 : tie.Need-returns-5 Inv-loop μ-loop
-returns-5 c =
-    let l = c .before .before in
+answer-requires-4 : tie.Need-answer-requires-4 Inv-loop μ-loop
+answer-requires-4 c κs = search needs
+
+returns-4 : tie.Need-returns-4 Inv-loop μ-loop
+returns-4 c =
+    let l = c .before .before .before in
     let a = l .before .before .before .before .args in
     let none : l .loop .left ≡ 0 = omega arith in
-    (rw (l .loop .inv .2, c .placed3 .ensures, none, paced-end (a .state) (a .file .now) (a .limit) (l .loop .free)), omega arith)
+    (rw (l .loop .inv .2, c .answer4 .ensures, c .before .placed3 .ensures, none, paced-end (a .state) (a .file .now) (a .limit) (l .loop .free)), rw (c .answer4 .ensures) (omega arith))
 
 pub pace-spec : {M : Type 1} → statement M
 pace-spec =
@@ -141,21 +118,17 @@ pace-spec =
     operations-left-requires
     loop-holds
     placed-requires
+    answer-requires
     returns
-    item-used-requires
-    enum-known-operation
-    enum-told
-    refused-pace-requires
+    start-requires
+    answer-requires-2
     returns-2
-    count-of-requires
-    refused-pace-requires-2
-    returns-3
-    waves-now-requires
     cast-if3
-    cast-placed
-    add-placed
+    cast-made
+    add-made
     placed-requires-2
-    returns-4
+    answer-requires-3
+    returns-3
     cast-free
     sub-free
     add-operations
@@ -163,4 +136,5 @@ pace-spec =
     loop-less
     loop-again
     placed-requires-3
-    returns-5)
+    answer-requires-4
+    returns-4)

@@ -1,7 +1,7 @@
--- `segments::place::Place::next_cursor` meets its contract. Assumes nothing.
+-- `segments::place::next_cursor` meets its contract. Assumes nothing.
 use borrow.Author.Tests.{eq-eqb, ne-eqb}
-use Rattle.segments.proofs.place.Place.next_cursor.Statement.{statement}
-use Rattle.segments.proofs.place.Place.next_cursor.Tie as tie
+use Rattle.segments.proofs.place.next_cursor.Statement.{statement}
+use Rattle.segments.proofs.place.next_cursor.Tie as tie
 
 returns : tie.Need-returns
 returns c = simp (eq-eqb _ _ (c .if1 .taken))

@@ -1,7 +1,7 @@
--- `segments::place::Place::onward` meets its contract. Assumes nothing.
+-- `segments::place::onward` meets its contract. Assumes nothing.
 use borrow.Author.Needs.{needs}
-use Rattle.segments.proofs.place.Place.onward.Statement.{statement}
-use Rattle.segments.proofs.place.Place.onward.Tie as tie
+use Rattle.segments.proofs.place.onward.Statement.{statement}
+use Rattle.segments.proofs.place.onward.Tie as tie
 
 less-requires : tie.Need-less-requires
 less-requires c κs = search needs
