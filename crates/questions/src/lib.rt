@@ -1,4 +1,4 @@
-// What a player tells of itself, by the names of the original. `wave_source` is a method of the state.
+// What a player tells of itself, by the names of the original; `wave_source` is in `state`.
 use format::CardTable;
 use format::StreamPlayer;
 ghost use mathlib.Core.Path.{_≡_};

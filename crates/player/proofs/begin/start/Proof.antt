@@ -16,8 +16,8 @@ recorded-requires c κs = search needs
 enum-known-answer-2 : tie.Need-enum-known-answer-2
 enum-known-answer-2 c = search needs
 
-refused-requires : tie.Need-refused-requires
-refused-requires c κs = search needs
+refused-player-requires : tie.Need-refused-player-requires
+refused-player-requires c κs = search needs
 
 returns : tie.Need-returns
 returns c =
@@ -25,7 +25,7 @@ returns c =
 
 returns-2 : tie.Need-returns-2
 returns-2 c =
-    rw (c .refused .ensures) (started-refused (c .before .before .before .before .before .before .before .args .file .now) _ _ (c .before .before .before .before .before .check-file .ensures) (c .before .before .answer2 .given .1))
+    rw (c .refused-player .ensures) (started-refused (c .before .before .before .before .before .before .before .args .file .now) _ _ (c .before .before .before .before .before .check-file .ensures) (c .before .before .answer2 .given .1))
 
 pub start-spec : {M : Type 1} → statement M
 start-spec =
@@ -35,6 +35,6 @@ start-spec =
     enum-known-answer
     recorded-requires
     enum-known-answer-2
-    refused-requires
+    refused-player-requires
     returns
     returns-2)
