@@ -1,1 +1,4 @@
+pub mod Counted
+pub mod Parts
 pub mod Sequence
+pub mod Writing

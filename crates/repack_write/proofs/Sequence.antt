@@ -3,9 +3,10 @@ use Prim.Native.Nat.{ℕ, _+_, _≤_, _<_, _/_, _%_}
 use mathlib.Core.Path.{_≡_, refl, sym, ap, _∙_}
 use mathlib.Core.List.{List, [], _∷_, _++_, append-assoc, append-nil}
 use native.Mathlib.Nat.{add-zero, zero-add, add-assoc}
+use native.Mathlib.Numerals.{add-one}
 use native.Mathlib.Omega.{arith}
-use lib.ListN.{length, take, drop, length-append, take-append-drop}
-use lib.Seq.{take-at, drop-at, drop-drop, take-take, length-take-le}
+use lib.ListN.{length, take, drop, set, length-append, take-append-drop}
+use lib.Seq.{append-snoc, set-split, take-at, drop-at, drop-drop, take-take, length-take-le}
 use Rattle.format.specs.Bytes.{Field, u8, u, raw, bytesOf, bytesOfAll}
 use Rattle.format.specs.declared.operation.Operation.{Operation}
 use Rattle.format.specs.Operation.{addressWidth}
@@ -43,6 +44,10 @@ put-next a b at size buffer e h = rw e at (put-append a b at buffer h)
 -- no bytes
 pub put-none : (at : ℕ) (buffer : List ℕ) → at ≤ length buffer → put [] at buffer ≡ buffer
 put-none at buffer h = put-fits [] at buffer (omega arith) ∙ rw (append-nil, add-zero) (take-append-drop at buffer)
+
+-- one byte
+pub put-byte : (b at : ℕ) (buffer : List ℕ) → at < length buffer → set buffer at b ≡ put (b ∷ []) at buffer
+put-byte b at buffer h = set-split buffer at b h ∙ sym (put-fits (b ∷ []) at buffer (omega arith) ∙ rw (append-snoc, add-one))
 
 -- ---- fields
 
