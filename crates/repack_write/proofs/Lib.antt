@@ -1,4 +1,2 @@
 pub mod Counted
 pub mod Parts
-pub mod Sequence
-pub mod Writing

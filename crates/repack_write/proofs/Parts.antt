@@ -3,59 +3,22 @@ use Prim.Native.Nat.{ℕ, zero, suc, _+_, _*_, _-_, _≤_, _<_}
 use mathlib.Core.Path.{_≡_, refl, sym, ap, _∙_}
 use mathlib.Core.Bool.{Bool, true, false, cond}
 use mathlib.Core.List.{List, [], _∷_, _++_, append-assoc, append-nil}
-use native.Mathlib.Nat.{not-suc-le-zero}
 use native.Mathlib.Omega.{arith}
 use borrow.Author.Tests.{lt-ltb, le-ltb}
-use lib.Dec.{ltb}
 use lib.ListN.{length, getD, length-append}
-use Rattle.format.specs.declared.operation.Operation.the-variants.{Fill, Copy}
-use Rattle.format.specs.declared.header.Header.{Header}
-use Rattle.format.specs.Bytes.{Field, be, bytesOf, fieldBytes, bytesOfAll, sameBytes}
-use Rattle.format.specs.Header.{headerSize}
-use Rattle.format.specs.Operation.{addressWidth}
-use Rattle.format.specs.Repack.{startsWave, placeOf, pcmFill, pcmCopy}
-use Rattle.format.specs.Written.{itemBytes, operationsBytes, headerFields}
-use Rattle.round_trip.proofs.Places.{fields-size, length-bytesOf}
+use Rattle.format.specs.Bytes.{be, bytesOf, sameBytes}
+use Rattle.format.specs.Repack.{startsWave, placeOf}
+use Rattle.format.specs.Written.{operationsBytes}
+use Rattle.round_trip.proofs.Places.{length-bytesOf}
 use Rattle.repack.specs.Places.{recordsAt, behindFrame}
 use Rattle.repack.specs.Table.{waveAt, wavesIn, Table}
 use Rattle.repack.specs.Result.{coreBytes, pieceBytes, frameBytes}
 use Rattle.repack.proofs.Pieces.{values-count}
-use Rattle.repack.proofs.Result.{copy-size, bytes-wave, frames-next}
+use Rattle.repack.proofs.Result.{bytes-wave, frames-next}
 use Rattle.repack.proofs.Table.{waves-count}
-use Rattle.repack_write.specs.Parts.{frontFields, countFields, sizeFields, fieldsOf, entryBytes, waveEntries, directoryOf, wavesBytes, fillBytes, copyBytes, fillPart, copyPart, openingPart, waveCopy, framePart}
-
--- ---- the directory
-
-pub entry-size : (id kind size start : ℕ) → length (entryBytes id kind size start) ≡ 16
-unfolding entryBytes
-entry-size id kind size start = fields-size (fieldsOf id kind size start)
-
-pub entries-none : (id start : ℕ) → waveEntries id start 0 ≡ []
-unfolding waveEntries
-entries-none id start = refl
-
-pub entries-next : (id start count : ℕ) → 0 < count → waveEntries id start count ≡ entryBytes id 1 256 start ++ waveEntries (id + 1) (start + 256) (count - 1)
-unfolding waveEntries
-entries-next id start zero h = absurd (not-suc-le-zero h)
-entries-next id start (suc count) h =
-    let e : suc count - 1 ≡ count = omega arith in
-    rw e
-
-pub entries-size : (id start count : ℕ) → length (waveEntries id start count) ≡ count * 16
-unfolding waveEntries
-entries-size id start zero = omega arith
-entries-size id start (suc count) =
-    length-append (entryBytes id 1 256 start) (waveEntries (id + 1) (start + 256) count)
-    ∙ rw (entry-size, entries-size (id + 1) (start + 256) count) (omega arith)
-
-pub directory-plain : (pcm waves start : ℕ) → pcm ≡ 0 → directoryOf pcm waves start ≡ waveEntries 0 start waves
-unfolding directoryOf
-directory-plain pcm waves start e = rw e
-
-pub directory-pcm : (pcm waves start : ℕ) → (pcm ≡ 0 → ⊥) → directoryOf pcm waves start ≡ entryBytes 0 2 pcm start ++ waveEntries 1 (start + pcm) waves
-unfolding directoryOf
-directory-pcm zero waves start ne = absurd (ne refl)
-directory-pcm (suc n) waves start ne = refl
+use Rattle.written.specs.Items.{fillBytes, copyBytes}
+use Rattle.written.proofs.Items.{copy-size}
+use Rattle.repack_write.specs.Parts.{wavesBytes, fillPart, copyPart, openingPart, waveCopy, framePart}
 
 -- ---- the waves
 
@@ -100,10 +63,6 @@ unfolding fillPart operationsBytes
 some-fill zero ne h = absurd (ne refl)
 some-fill (suc n) ne h = rw (lt-ltb (suc n) 1048576 h, append-nil)
 
-pub fill-size : (t a n v : ℕ) → length (fillBytes t a n v) ≡ 10
-unfolding itemBytes addressWidth
-fill-size t a n v = fields-size _
-
 pub no-copy : (pcm : ℕ) → pcm ≡ 0 → copyPart pcm ≡ []
 unfolding copyPart operationsBytes
 no-copy pcm e = rw e
@@ -116,33 +75,6 @@ some-copy (suc n) ne = rw append-nil
 pub opening-is : (file : List ℕ) (count pcm : ℕ) → openingPart file count pcm ≡ fillPart pcm ++ (coreBytes file count 20 ++ copyPart pcm)
 unfolding openingPart
 opening-is file count pcm = refl
-
--- ---- the header
-
-fields-append : (a b : List Field) → bytesOfAll (a ++ b) ≡ bytesOfAll a ++ bytesOfAll b
-unfolding bytesOfAll
-fields-append [] b = refl
-fields-append (field ∷ a) b = rw (fields-append a b) (sym (append-assoc (fieldBytes field) (bytesOfAll a) (bytesOfAll b)))
-
--- its parts, where the version is 2 and there are no cards
-module _ (header : Header) where
-  abbrev pub front : List ℕ
-  front = bytesOfAll (frontFields (header .repeat) (header .«frame_count»))
-
-  abbrev pub counts : List ℕ
-  counts = bytesOfAll (countFields (header .«pool_count») (header .«initial_count») (header .«directory_offset») (header .«initial_start»))
-
-  abbrev pub sizes : List ℕ
-  sizes = bytesOfAll (sizeFields (header .«frame_start») (header .«total_size»))
-
-  pub header-parts : header .version ≡ 2 → header .«card_count» ≡ 0 → bytesOfAll (headerFields header) ≡ front ++ (counts ++ sizes)
-  unfolding headerSize
-  header-parts two none =
-      let a = frontFields (header .repeat) (header .«frame_count») in
-      let b = countFields (header .«pool_count») (header .«initial_count») (header .«directory_offset») (header .«initial_start») in
-      let c = sizeFields (header .«frame_start») (header .«total_size») in
-      let is : headerFields header ≡ a ++ (b ++ c) = rw (two, none) in
-      ap bytesOfAll is ∙ fields-append a (b ++ c) ∙ ap (λ (l : List ℕ). bytesOfAll a ++ l) (fields-append b c)
 
 -- ---- a frame
 
@@ -167,7 +99,7 @@ module _ (file : List ℕ) (base : ℕ) (waves : List (List ℕ)) where
 
   pub wave-copy-size : (at : ℕ) → length (waveCopy base waves file at) ≡ 15
   unfolding waveCopy
-  wave-copy-size at = copy-size _ _ _ _ _
+  wave-copy-size at = copy-size _ _ _ _
 
   pub frame-next : (count at : ℕ) → 0 < count → frameBytes base waves file count at ≡ framePart base waves file at ++ frameBytes base waves file (count - 1) (behindFrame file at)
   unfolding framePart

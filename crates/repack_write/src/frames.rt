@@ -1,5 +1,4 @@
 // The frames of a repacked file: each a count of its operations, then a COPY for each wave and a WRITE for each other record.
-use crate::item::put_copy;
 use crate::opening::put_record;
 use big_endian::put_u16;
 use big_endian::read_u16;
@@ -9,6 +8,7 @@ use repack::MOST;
 use repack::bucket;
 use repack::starts_wave;
 use repack::wave_number;
+use written::put_copy;
 ghost use mathlib.Core.Path.{_≡_};
 ghost use Prim.Native.Nat.{_+_, _*_, _≤_};
 ghost use lib.ListN.{length};

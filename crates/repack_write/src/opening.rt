@@ -1,8 +1,8 @@
 // The opening of a repacked file: a FILL of the PCM memory that was not written, the core records, a COPY of the PCM bytes.
-use crate::item::put_copy;
-use crate::item::put_fill;
-use crate::item::put_write;
 use big_endian::read_u24;
+use written::put_copy;
+use written::put_fill;
+use written::put_write;
 ghost use mathlib.Core.Path.{_≡_};
 ghost use Prim.Native.Nat.{_+_, _*_, _≤_, _<_};
 ghost use lib.ListN.{length};
@@ -14,7 +14,7 @@ ghost use Rattle.repack_write.specs.Parts.{fillPart, copyPart, openingPa
 
 // How many bytes the FILL takes.
 pub fn fill_size(pcm: usize) -> usize
-    ensures { λ r. ⌜ r ≡ length (fillPart pcm) ⌝ }
+    ensures { λ r. ⌜ (r ≡ length (fillPart pcm)) × (r ≤ 10) ⌝ }
 {
     if pcm == 0 {
         return 0;
@@ -27,7 +27,7 @@ pub fn fill_size(pcm: usize) -> usize
 
 // How many bytes the COPY takes.
 pub fn copy_size(pcm: usize) -> usize
-    ensures { λ r. ⌜ r ≡ length (copyPart pcm) ⌝ }
+    ensures { λ r. ⌜ (r ≡ length (copyPart pcm)) × (r ≤ 15) ⌝ }
 {
     if pcm == 0 {
         return 0;

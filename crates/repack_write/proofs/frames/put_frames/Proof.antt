@@ -13,7 +13,7 @@ use Rattle.repack.proofs.Master.{frames-behind, frame-within}
 use Rattle.repack.proofs.Result.{frames-none}
 use Rattle.repack_write.specs.Parts.{framePart}
 use Rattle.repack_write.proofs.Parts.{frame-next}
-use Rattle.repack_write.proofs.Writing.{Writing, starts, wrote, ends}
+use Rattle.written.proofs.Writing.{Writing, starts, wrote, ends}
 use Rattle.repack_write.proofs.frames.put_frames.Statement.{statement}
 use Rattle.repack_write.proofs.frames.put_frames.Tie as tie
 

@@ -17,7 +17,7 @@ use Rattle.repack.proofs.Result.{bytes-none, bytes-single, pieces-none, pieces-
 use Rattle.repack_write.specs.Parts.{waveCopy}
 use Rattle.repack_write.proofs.Counted.{pieces-few}
 use Rattle.repack_write.proofs.Parts.{copy-of-wave, wave-copy-size}
-use Rattle.repack_write.proofs.Writing.{Writing, starts, wrote, ends}
+use Rattle.written.proofs.Writing.{Writing, starts, wrote, ends}
 use Rattle.repack_write.proofs.frames.put_pieces.Statement.{statement}
 use Rattle.repack_write.proofs.frames.put_pieces.Tie as tie
 

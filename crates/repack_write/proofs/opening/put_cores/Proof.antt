@@ -11,7 +11,7 @@ use Rattle.format.specs.Written.{itemBytes}
 use Rattle.repack.specs.Places.{recordOf}
 use Rattle.repack.specs.Result.{coreBytes}
 use Rattle.repack.proofs.Result.{core-item, core-skip, opening-none, write-size}
-use Rattle.repack_write.proofs.Writing.{Writing, starts, wrote, told, ends}
+use Rattle.written.proofs.Writing.{Writing, starts, wrote, told, ends}
 use Rattle.repack_write.proofs.opening.put_cores.Statement.{statement}
 use Rattle.repack_write.proofs.opening.put_cores.Tie as tie
 

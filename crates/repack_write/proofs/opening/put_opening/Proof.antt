@@ -8,7 +8,7 @@ use lib.ListN.{length, length-append}
 use Rattle.repack.specs.Result.{coreBytes}
 use Rattle.repack_write.specs.Parts.{fillPart, copyPart, openingPart}
 use Rattle.repack_write.proofs.Parts.{opening-is}
-use Rattle.repack_write.proofs.Writing.{Writing, starts, wrote, ends}
+use Rattle.written.proofs.Writing.{Writing, starts, wrote, ends}
 use Rattle.repack_write.proofs.opening.put_opening.Statement.{statement}
 use Rattle.repack_write.proofs.opening.put_opening.Tie as tie
 
@@ -24,7 +24,7 @@ fill-size-requires c κs = search needs
 add-cores : tie.Need-add-cores
 add-cores c =
     let a = c .before .before .before .args in
-    omega (arith, c .before .before .before .pre .1, size (a .file .now) (a .count) (a .pcm), c .fill-size .ensures)
+    omega (arith, c .before .before .before .pre .1, size (a .file .now) (a .count) (a .pcm), c .fill-size .ensures .0)
 
 put-pcm-fill-requires : tie.Need-put-pcm-fill-requires
 put-pcm-fill-requires c κs =
@@ -34,12 +34,12 @@ put-pcm-fill-requires c κs =
 put-cores-requires : tie.Need-put-cores-requires
 put-cores-requires c κs =
     let a = c .before .before .before .before .before .before .before .before .args in
-    (c .before .before .before .before .before .before .before .before .pre .0, omega (arith, c .before .before .before .before .before .before .before .before .pre .1, size (a .file .now) (a .count) (a .pcm), c .before .before .before .before .before .fill-size .ensures))
+    (c .before .before .before .before .before .before .before .before .pre .0, omega (arith, c .before .before .before .before .before .before .before .before .pre .1, size (a .file .now) (a .count) (a .pcm), c .before .before .before .before .before .fill-size .ensures .0))
 
 put-pcm-copy-requires : tie.Need-put-pcm-copy-requires
 put-pcm-copy-requires c κs =
     let a = c .before .before .before .before .before .before .before .before .before .before .before .before .args in
-    (omega (arith, c .before .before .before .before .before .before .before .before .before .before .before .before .pre .1, size (a .file .now) (a .count) (a .pcm), c .before .before .before .before .before .before .before .before .before .fill-size .ensures, c .before .before .before .put-cores .ensures .1), c .before .before .before .before .before .before .before .before .before .before .before .before .pre .2)
+    (omega (arith, c .before .before .before .before .before .before .before .before .before .before .before .before .pre .1, size (a .file .now) (a .count) (a .pcm), c .before .before .before .before .before .before .before .before .before .fill-size .ensures .0, c .before .before .before .put-cores .ensures .1), c .before .before .before .before .before .before .before .before .before .before .before .before .pre .2)
 
 same-length : tie.Need-same-length
 same-length c = search needs
@@ -50,7 +50,7 @@ returns c =
     let cores = coreBytes (a .file .now) (a .count) 20 in
     let copy = copyPart (a .pcm) in
     let w = starts (openingPart (a .file .now) (a .count) (a .pcm)) (a .at) (a .buffer .now) (c .before .before .before .before .before .before .before .before .before .before .before .before .before .before .before .pre .1) in
-    let w′ = wrote w (fillPart (a .pcm)) (cores ++ copy) (length (fillPart (a .pcm))) (opening-is (a .file .now) (a .count) (a .pcm)) refl (ap (λ (n : ℕ). a .at + n) (c .before .before .before .before .before .before .before .before .before .before .before .before .fill-size .ensures)) (c .before .before .before .before .before .before .before .before .before .before .put-pcm-fill .ensures) in
+    let w′ = wrote w (fillPart (a .pcm)) (cores ++ copy) (length (fillPart (a .pcm))) (opening-is (a .file .now) (a .count) (a .pcm)) refl (ap (λ (n : ℕ). a .at + n) (c .before .before .before .before .before .before .before .before .before .before .before .before .fill-size .ensures .0)) (c .before .before .before .before .before .before .before .before .before .before .put-pcm-fill .ensures) in
     let w″ = wrote w′ cores copy (length cores) refl refl (c .before .before .before .before .before .before .put-cores .ensures .1) (c .before .before .before .before .before .before .put-cores .ensures .0) in
     let done = wrote w″ copy [] (length copy) (sym (append-nil copy)) refl refl (c .before .before .put-pcm-copy .ensures) in
     ends done refl .0

@@ -6,8 +6,8 @@ use native.Mathlib.Omega.{arith}
 use borrow.Author.Needs.{needs}
 use lib.ListN.{length}
 use Rattle.big_endian.specs.Put.{put}
-use Rattle.repack.proofs.Result.{copy-size}
-use Rattle.repack_write.proofs.Sequence.{put-none}
+use Rattle.written.proofs.Items.{copy-size}
+use Rattle.written.proofs.Sequence.{put-none}
 use Rattle.repack_write.proofs.Parts.{no-copy, some-copy}
 use Rattle.repack_write.proofs.opening.put_pcm_copy.Statement.{statement}
 use Rattle.repack_write.proofs.opening.put_pcm_copy.Tie as tie
@@ -23,7 +23,7 @@ cast-put-copy c = search needs
 put-copy-requires : tie.Need-put-copy-requires
 put-copy-requires c κs =
     let a = c .before .before .before .args in
-    omega (arith, ap length (some-copy (a .pcm) (c .before .if1 .left)), copy-size 2 0 0 0 (a .pcm))
+    omega (arith, ap length (some-copy (a .pcm) (c .before .if1 .left)), copy-size 2 0 0 (a .pcm))
 
 same-length : tie.Need-same-length
 same-length c = search needs

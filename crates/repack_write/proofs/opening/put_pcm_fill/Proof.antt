@@ -4,8 +4,9 @@ use mathlib.Core.Path.{_≡_, refl, sym, ap, _∙_}
 use native.Mathlib.Omega.{arith}
 use borrow.Author.Needs.{needs}
 use lib.ListN.{length}
-use Rattle.repack_write.proofs.Sequence.{put-none}
-use Rattle.repack_write.proofs.Parts.{no-fill, full-fill, some-fill, fill-size}
+use Rattle.written.proofs.Sequence.{put-none}
+use Rattle.written.proofs.Items.{fill-size}
+use Rattle.repack_write.proofs.Parts.{no-fill, full-fill, some-fill}
 use Rattle.repack_write.proofs.opening.put_pcm_fill.Statement.{statement}
 use Rattle.repack_write.proofs.opening.put_pcm_fill.Tie as tie
 

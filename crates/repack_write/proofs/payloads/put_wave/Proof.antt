@@ -8,8 +8,8 @@ use lib.ListN.{length}
 use Rattle.format.specs.Bytes.{byte}
 use Rattle.repack.specs.Places.{valuesAt}
 use Rattle.repack.proofs.Pieces.{values-next, values-none, values-count}
-use Rattle.repack_write.proofs.Sequence.{put-byte}
-use Rattle.repack_write.proofs.Writing.{Writing, starts, wrote, ends}
+use Rattle.written.proofs.Sequence.{put-byte}
+use Rattle.written.proofs.Writing.{Writing, starts, wrote, ends}
 use Rattle.repack_write.proofs.payloads.put_wave.Statement.{statement}
 use Rattle.repack_write.proofs.payloads.put_wave.Tie as tie
 

@@ -7,7 +7,7 @@ use lib.ListN.{length, getD}
 use Rattle.repack.specs.Table.{waveAt}
 use Rattle.repack_write.specs.Parts.{wavesBytes}
 use Rattle.repack_write.proofs.Parts.{wave-size, waves-none, waves-next, waves-size}
-use Rattle.repack_write.proofs.Writing.{Writing, starts, wrote, ends}
+use Rattle.written.proofs.Writing.{Writing, starts, wrote, ends}
 use Rattle.repack_write.proofs.payloads.put_waves.Statement.{statement}
 use Rattle.repack_write.proofs.payloads.put_waves.Tie as tie
 
