@@ -12,6 +12,9 @@ ghost use Rattle.repack.specs.Places.{recordOf};
 ghost use Rattle.repack.specs.Result.{pcmBytes, coreBytes};
 ghost use Rattle.repack_write.specs.Parts.{fillPart, copyPart, openingPart};
 
+// The bytes of PCM memory.
+const PCM_SIZE: usize = 1048576;
+
 // How many bytes the FILL takes.
 pub fn fill_size(pcm: usize) -> usize
     ensures { λ r. ⌜ (r ≡ length (fillPart pcm)) × (r ≤ 10) ⌝ }
@@ -19,10 +22,10 @@ pub fn fill_size(pcm: usize) -> usize
     if pcm == 0 {
         return 0;
     }
-    if 1048576 <= pcm {
-        return 0;
+    if pcm < PCM_SIZE {
+        return 10;
     }
-    10
+    0
 }
 
 // How many bytes the COPY takes.
@@ -43,10 +46,10 @@ fn put_pcm_fill(buffer: &mut [u8], at: usize, pcm: usize)
     if pcm == 0 {
         return;
     }
-    if 1048576 <= pcm {
+    if PCM_SIZE <= pcm {
         return;
     }
-    put_fill(buffer, at, 2, pcm as u32, (1048576 - pcm) as u32, 0x80);
+    put_fill(buffer, at, 2, pcm as u32, (PCM_SIZE - pcm) as u32, 0x80);
 }
 
 // The COPY of all PCM bytes, if PCM was written.
