@@ -2,15 +2,14 @@
 use Prim.Native.Nat.{ℕ, _+_, _*_, _≤_, _<_}
 use mathlib.Core.Path.{_≡_, refl, sym, ap, _∙_, subst}
 use mathlib.Core.Bool.{Bool, true, false, not}
-use mathlib.Core.List.{List, [], _++_}
+use mathlib.Core.List.{List, _++_}
 use native.Mathlib.Nat.{zero-add}
 use native.Mathlib.Omega.{arith}
 use borrow.Author.Tests.{eq-eqb, ne-eqb, lt-ltb, le-ltb}
 use lib.ListN.{length, drop, length-map}
 use Rattle.format.specs.declared.header.Header.{Header}
 use Rattle.format.specs.declared.operation.Operation.{Operation}
-use Rattle.format.specs.Checked.{Checked, ok, refused, refuse, mapped, _>>=_, _>>_}
-use Rattle.format.specs.Header.{headerOf}
+use Rattle.format.specs.Checked.{Checked, ok, refused, refuse, mapped, _>>_}
 use Rattle.format.specs.Lent.{lentAfter}
 use Rattle.format.specs.Repack.{value, toPcm, inOrder, repacked, repack, repackInto}
 use Rattle.format.specs.Stream.{Stream, read}
@@ -24,7 +23,7 @@ use Rattle.repack.specs.Result.{pcmFrom, pcmBytes, Measured}
 use Rattle.repack.proofs.Master.{Lies, IsMaster, is-master, repacked-master}
 use Rattle.compile.specs.declared.song.Repacked.{Repacked}
 use Rattle.compile.specs.declared.song.Repacked.the-variants.{Written}
-use Rattle.compile.specs.Answer.{repackedOf, Taken, Repacks}
+use Rattle.compile.specs.Answer.{repackedOf, Taken, Ordered, Repacks}
 use Rattle.compile.specs.Layout.{Known}
 
 -- a refusal writes nothing
@@ -89,7 +88,7 @@ pcm-refused records e = go (inOrder 0 (toPcm records)) e
     go true e′ = absurd (refused-not-ok (sym e′))
     go false e′ = refl
 
-module _ (file : List ℕ) (header : Header) (t : Taken file header) where
+module _ {file : List ℕ} {header : Header} (t : Taken file header) where
   version-is : t .stream .version ≡ header .version
   version-is = accepted file (t .stream) (t .reads) .0 .version ∙ ap (λ (h : Header). h .version) (sym (t .header-is))
 
@@ -116,31 +115,35 @@ module _ (file : List ℕ) (header : Header) (t : Taken file header) where
     out-of-order room e =
         not-ordered file (t .stream) (t .reads) room stream-one (ap (λ (l : List Operation). inOrder 0 (toPcm l)) opening-is ∙ pcm-refused (recordsAt file (header .«initial_count») 20) e)
 
-    module _ (pcm : ℕ) (e : pcmFrom 0 (recordsAt file (header .«initial_count») 20) ≡ ok pcm) where
-      pub pcm-length : length (pcmBytes file (header .«initial_count») 20) ≡ pcm
-      unfolding pcmBytes
-      pcm-length = length-map (toPcm (recordsAt file (header .«initial_count») 20)) value ∙ pcm-said (recordsAt file (header .«initial_count») 20) pcm e .1
+-- a master whose PCM records run in order
+module _ {file : List ℕ} {header : Header} {pcm : ℕ} (o : Ordered file header pcm) where
+  pub here : Lies file header
+  here = lies (o .taken) (o .one)
 
-      -- with what was measured
-      pub known-of : {heads next places : List ℕ} {waves size : ℕ} → Measured file (20 + header .«initial_count» * 5) (header .«frame_count») heads next places waves size
-          → Known file header heads next places pcm waves size
-      known-of measured =
-          record { pcm-is = pcm-length; measured = measured; opening-fits = lies .opening-fits; frames-fit = lies .frames-fit; small = lies .small }
+  pcm-length : length (pcmBytes file (header .«initial_count») 20) ≡ pcm
+  unfolding pcmBytes
+  pcm-length = length-map (toPcm (recordsAt file (header .«initial_count») 20)) value ∙ pcm-said (recordsAt file (header .«initial_count») 20) pcm (o .run) .1
 
-      ordered : inOrder 0 (toPcm (t .stream .opening)) ≡ true
-      ordered = ap (λ (l : List Operation). inOrder 0 (toPcm l)) opening-is ∙ pcm-said (recordsAt file (header .«initial_count») 20) pcm e .0
+  -- with what was measured
+  pub known-of : {heads next places : List ℕ} {waves size : ℕ} → Measured file (20 + header .«initial_count» * 5) (header .«frame_count») heads next places waves size
+      → Known file header heads next places pcm waves size
+  known-of measured =
+      record { pcm-is = pcm-length; measured = measured; opening-fits = here .opening-fits; frames-fit = here .frames-fit; small = here .small }
 
-      abbrev pub result : List ℕ
-      result = written (repacked (masterOf file header))
+  ordered : inOrder 0 (toPcm (o .taken .stream .opening)) ≡ true
+  ordered = ap (λ (l : List Operation). inOrder 0 (toPcm l)) (opening-is (o .taken) (o .one)) ∙ pcm-said (recordsAt file (header .«initial_count») 20) pcm (o .run) .0
 
-      same : written (repacked (t .stream)) ≡ result
-      same = ap written repacked-is
+  abbrev pub result : List ℕ
+  result = written (repacked (masterOf file header))
 
-      pub long-result : (room : ℕ) → 0xE00000 < length result → repackInto file room ≡ refused 23 0
-      long-result room h = too-long file (t .stream) (t .reads) room stream-one ordered (rw same h)
+  same : written (repacked (o .taken .stream)) ≡ result
+  same = ap written (repacked-is (o .taken) (o .one))
 
-      pub short-room : (room : ℕ) → length result ≤ 0xE00000 → room < length result → repackInto file room ≡ refused 24 0
-      short-room room small h = no-room file (t .stream) (t .reads) room stream-one ordered (rw same small) (rw same h)
+  pub long-result : (room : ℕ) → 0xE00000 < length result → repackInto file room ≡ refused 23 0
+  long-result room h = too-long file (o .taken .stream) (o .taken .reads) room (stream-one (o .taken) (o .one)) ordered (rw same h)
 
-      pub the-result : (room : ℕ) → length result ≤ 0xE00000 → length result ≤ room → repackInto file room ≡ ok result
-      the-result room small h = result-is file (t .stream) (t .reads) room stream-one ordered (rw same small) (rw same h) ∙ ap ok same
+  pub short-room : (room : ℕ) → length result ≤ 0xE00000 → room < length result → repackInto file room ≡ refused 24 0
+  short-room room small h = no-room file (o .taken .stream) (o .taken .reads) room (stream-one (o .taken) (o .one)) ordered (rw same small) (rw same h)
+
+  pub the-result : (room : ℕ) → length result ≤ 0xE00000 → length result ≤ room → repackInto file room ≡ ok result
+  the-result room small h = result-is file (o .taken .stream) (o .taken .reads) room (stream-one (o .taken) (o .one)) ordered (rw same small) (rw same h) ∙ ap ok same

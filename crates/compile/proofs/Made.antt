@@ -1,14 +1,13 @@
 -- A repacked master is its parts, one after the other, each by the numbers that were measured.
-use Prim.Native.Nat.{ℕ, zero, suc, _+_, _*_, _-_, _≤_, _<_}
+use Prim.Native.Nat.{ℕ, zero, suc, _+_, _*_, _-_, _≤_}
 use mathlib.Core.Path.{_≡_, refl, sym, ap, _∙_}
 use mathlib.Core.Bool.{Bool, true, false, cond}
 use mathlib.Core.List.{List, [], _∷_, _++_, map, append-assoc, append-nil}
-use native.Mathlib.Nat.{not-suc-le-zero}
 use native.Mathlib.Numerals.{add-one}
 use native.Mathlib.Omega.{arith}
 use borrow.Author.Tests.{eqb-true, eqb-false}
 use lib.Dec.{eqb}
-use lib.ListN.{length, getD, take, drop, length-append, length-map}
+use lib.ListN.{length, take, drop, length-append, length-map}
 use lib.Seq.{drop-cons, length-take-le}
 use Rattle.format.specs.declared.header.Header.{Header}
 use Rattle.format.specs.declared.operation.Operation.{Operation}
@@ -23,7 +22,7 @@ use Rattle.round_trip.proofs.Places.{fields-size}
 use Rattle.round_trip.proofs.Items.{operations-count}
 use Rattle.round_trip.proofs.Tables.{directory-size}
 use Rattle.round_trip.proofs.RepackedFrames.{wavePool}
-use Rattle.repack.specs.Places.{recordOf, recordsAt, framesAt, behindFrame, masterOf}
+use Rattle.repack.specs.Places.{recordsAt, framesAt, behindFrame, masterOf}
 use Rattle.repack.specs.Table.{waveAt, wavesIn}
 use Rattle.repack.specs.Result.{pcmBytes, coreBytes, frameBytes, allWaves}
 use Rattle.repack.proofs.Pieces.{records-count}
@@ -141,7 +140,7 @@ made file header waves =
       frames = map (λ (frame : List Operation). map (packedPiece (length (pcmPools pcm)) waves) (pieces 0 frame)) (framesAt file (header .«frame_count») (20 + header .«initial_count» * 5));
     }
 
-module _ (file : List ℕ) (header : Header) (heads next places : List ℕ) (pcm waves size : ℕ) (known : Known file header heads next places pcm waves size) where
+module _ {file : List ℕ} {header : Header} {heads next places : List ℕ} {pcm waves size : ℕ} (known : Known file header heads next places pcm waves size) where
   abbrev records : ℕ
   records = header .«initial_count»
 
@@ -278,7 +277,7 @@ module _ (file : List ℕ) (header : Header) (heads next places : List ℕ) (pcm
 
   -- ---- places
 
-  module _ (l : Layout) (e : l ≡ layout) where
+  module _ {l : Layout} (e : l ≡ layout) where
     opening-at : l .opening ≡ l .payloads + (pcm + waves * 256)
     unfolding layoutOf
     opening-at = rw e

@@ -1,6 +1,6 @@
 -- Laws of the numbers of a layout, and of the header, directory and payloads that are written by them.
-use Prim.Native.Nat.{ℕ, zero, suc, _+_, _*_, _-_, _≤_, _<_}
-use mathlib.Core.Path.{_≡_, refl, sym, ap, _∙_}
+use Prim.Native.Nat.{ℕ, zero, suc, _+_, _*_, _≤_, _<_}
+use mathlib.Core.Path.{_≡_, refl, _∙_}
 use mathlib.Core.List.{List, _++_}
 use native.Mathlib.Omega.{arith}
 use borrow.Author.Tests.{lt-ltb, le-ltb}
@@ -51,15 +51,15 @@ pub header-long : (header : Header) (layout : Layout) → length (bytesOfAll (he
 unfolding newHeader headerSize
 header-long header layout = fields-size (headerFields (newHeader header layout))
 
-module _ (file : List ℕ) (header : Header) (pcm waves : ℕ) (layout : Layout) (places : List ℕ) where
+module _ {file : List ℕ} {header : Header} {pcm waves : ℕ} {layout : Layout} {places buffer : List ℕ} (fits : FrontFits file header pcm waves layout places buffer) where
   pub front-is : frontOf file header pcm waves layout places ≡ bytesOfAll (headerFields (newHeader header layout)) ++ (directoryOf pcm waves (layout .payloads) ++ (pcmBytes file (header .«initial_count») 20 ++ wavesBytes file places 0 waves))
   unfolding frontOf
   front-is = refl
 
   -- it ends where the opening starts
-  pub front-size : (buffer : List ℕ) → FrontFits file header pcm waves layout places buffer → length (frontOf file header pcm waves layout places) ≡ layout .opening
+  pub front-size : length (frontOf file header pcm waves layout places) ≡ layout .opening
   unfolding frontOf
-  front-size buffer fits =
+  front-size =
       four-size (bytesOfAll (headerFields (newHeader header layout))) (directoryOf pcm waves (layout .payloads)) (pcmBytes file (header .«initial_count») 20) (wavesBytes file places 0 waves)
       ∙ omega (arith, header-long header layout, directory-long pcm waves (layout .payloads), fits .pcm-is, waves-size file places 0 waves, fits .payloads-at, fits .opening-at)
     where

@@ -10,6 +10,8 @@ use Rattle.format.specs.Header.{headerOf}
 use Rattle.format.specs.Repack.{repackInto, bufferAfter}
 use Rattle.format.specs.Rule.{numberOf, refusal}
 use Rattle.format.specs.Stream.{Stream, read}
+use Rattle.repack.specs.Places.{recordsAt}
+use Rattle.repack.specs.Result.{pcmFrom}
 use Rattle.compile.specs.declared.song.Repacked.{Repacked}
 use Rattle.compile.specs.declared.song.Repacked.the-variants.{Written, Refused}
 
@@ -27,6 +29,12 @@ pub record Taken (file : List ℕ) (header : Header) : Type 0 where
   pub stream : Stream
   pub reads : read file ≡ ok stream
   pub header-is : header ≡ headerOf file
+
+-- an accepted master with so many PCM records, in order
+pub record Ordered (file : List ℕ) (header : Header) (pcm : ℕ) : Type 0 where
+  pub taken : Taken file header
+  pub one : header .version ≡ 1
+  pub run : pcmFrom 0 (recordsAt file (header .«initial_count») 20) ≡ ok pcm
 
 -- the answer, and the lent buffer after it
 abbrev pub Repacks : (file buffer buffer′ : List ℕ) → Repacked → Type 0

@@ -13,12 +13,9 @@ use repack::measure_frames;
 use repack::pcm_run;
 ghost use mathlib.Core.Path.{_≡_};
 ghost use lib.ListN.{length};
-ghost use Rattle.format.specs.Checked.{mapped, ok};
+ghost use Rattle.format.specs.Checked.{mapped};
 ghost use Rattle.format.specs.Repack.{repackInto, bufferAfter};
-ghost use Rattle.format.specs.Rule.{numberOf};
-ghost use Rattle.repack.specs.Places.{recordsAt};
-ghost use Rattle.repack.specs.Result.{pcmFrom};
-ghost use Rattle.compile.specs.Answer.{repackedOf, refusedBy, Taken, Repacks};
+ghost use Rattle.compile.specs.Answer.{repackedOf, refusedBy, Taken, Ordered, Repacks};
 
 // The length of the repacked file, or the refusal.
 pub enum Repacked {
@@ -35,7 +32,7 @@ fn refused(rule: Rule) -> Repacked
 
 // A master whose PCM records run 0, 1, 2 and so on: it is measured first, and written only where it fits.
 fn repack_measured(file: &[u8], header: Header, pcm: usize, buffer: &mut [u8]) -> Repacked
-    requires { ⌜ Taken (now file) header × (header .version ≡ 1) × (pcmFrom 0 (recordsAt (now file) (header .«initial_count») 20) ≡ ok pcm) ⌝ }
+    requires { ⌜ Ordered (now file) header pcm ⌝ }
     ensures { λ r. ⌜ Repacks (now (file .entry)) (now (buffer .entry)) (now (buffer .exit)) r ⌝ }
 {
     let records = header.initial_count as usize;

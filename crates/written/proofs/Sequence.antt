@@ -1,5 +1,5 @@
 -- Bytes written one after the other are written as one.
-use Prim.Native.Nat.{ℕ, _+_, _≤_, _<_, _/_, _%_}
+use Prim.Native.Nat.{ℕ, _+_, _≤_, _<_, _%_}
 use mathlib.Core.Path.{_≡_, refl, sym, ap, _∙_}
 use mathlib.Core.List.{List, [], _∷_, _++_, append-assoc, append-nil}
 use native.Mathlib.Nat.{add-zero, zero-add, add-assoc}
@@ -14,7 +14,7 @@ use Rattle.format.specs.Written.{operationFields, itemBytes}
 use Rattle.round_trip.proofs.Places.{length-bytesOf, fieldsSize, fields-size}
 use Rattle.big_endian.specs.Put.{put}
 use Rattle.big_endian.proofs.Laws.{put-fits, put-before, put-behind, length-put}
-use Rattle.written.specs.Fields.{sizeOf, putField, putMore, putFields, Narrow}
+use Rattle.written.specs.Fields.{putMore, putFields, Narrow}
 
 -- the second bytes behind the first
 pub put-append : (a b : List ℕ) (at : ℕ) (buffer : List ℕ) → at + length (a ++ b) ≤ length buffer → put (a ++ b) at buffer ≡ put b (at + length a) (put a at buffer)

@@ -1,5 +1,5 @@
 -- `compile::layout::fill_count` meets its contract. Assumes nothing.
-use mathlib.Core.Path.{_≡_, refl, sym, ap, _∙_}
+use mathlib.Core.Path.{sym}
 use native.Mathlib.Omega.{arith}
 use Rattle.compile.proofs.Numbers.{fills-none, fills-full, fills-some}
 use Rattle.compile.proofs.layout.fill_count.Statement.{statement}

@@ -1,5 +1,5 @@
 -- `compile::layout::pcm_pool` meets its contract. Assumes nothing.
-use mathlib.Core.Path.{_≡_, refl, sym, ap, _∙_}
+use mathlib.Core.Path.{sym}
 use native.Mathlib.Omega.{arith}
 use Rattle.compile.proofs.Numbers.{no-pool, some-pool}
 use Rattle.compile.proofs.layout.pcm_pool.Statement.{statement}

@@ -1,5 +1,5 @@
 -- `compile::song::compile_song_v2` meets its contract. Assumes nothing.
-use mathlib.Core.Path.{_≡_, refl, sym, ap, _∙_}
+use mathlib.Core.Path.{refl}
 use borrow.Author.Needs.{needs}
 use Rattle.compile.specs.declared.song.Repacked.the-variants.{Refused}
 use Rattle.file_check.proofs.Answers.{accepted-as, refused-as}

@@ -1,5 +1,5 @@
 -- `compile::song::repack_accepted` meets its contract. Assumes nothing.
-use mathlib.Core.Path.{_≡_, refl, sym, ap, _∙_}
+use mathlib.Core.Path.{sym, ap, _∙_}
 use borrow.Author.Needs.{needs}
 use Rattle.repack.specs.Result.{pcmIn}
 use Rattle.compile.proofs.Answers.{refuses, other-version, out-of-order, lies}
@@ -12,7 +12,7 @@ refused-requires c κs = search needs
 returns : tie.Need-returns
 returns c =
     let s = c .before .before .before .before .before in
-    refuses (s .args .file .now) (s .args .buffer .now) 21 0 (c .refused .result) (other-version (s .args .file .now) (s .args .header) (s .pre) _ (c .before .if1 .taken)) (c .refused .ensures)
+    refuses (s .args .file .now) (s .args .buffer .now) 21 0 (c .refused .result) (other-version (s .pre) _ (c .before .if1 .taken)) (c .refused .ensures)
 
 cast-pcm-run : tie.Need-cast-pcm-run
 cast-pcm-run c = search needs
@@ -20,7 +20,7 @@ cast-pcm-run c = search needs
 pcm-run-requires : tie.Need-pcm-run-requires
 pcm-run-requires c κs =
     let s = c .before .before .before .before .before in
-    lies (s .args .file .now) (s .args .header) (s .pre) (c .before .if1 .left) .opening-fits
+    lies (s .pre) (c .before .if1 .left) .opening-fits
 
 enum-known-pcm : tie.Need-enum-known-pcm
 enum-known-pcm c = search needs
@@ -28,7 +28,7 @@ enum-known-pcm c = search needs
 repack-measured-requires : tie.Need-repack-measured-requires
 repack-measured-requires c κs =
     let s = c .before .before .before .before .before .before .before .before .before .before in
-    (s .pre, c .before .before .before .before .before .before .if1 .left, sym (c .before .before .before .before .pcm-run .ensures) ∙ ap pcmIn (c .before .before .pcm .given .1))
+    record { taken = s .pre; one = c .before .before .before .before .before .before .if1 .left; run = sym (c .before .before .before .before .pcm-run .ensures) ∙ ap pcmIn (c .before .before .pcm .given .1) }
 
 enum-told : tie.Need-enum-told
 enum-told c = search needs
@@ -45,7 +45,7 @@ returns-2 c = search needs
 returns-3 : tie.Need-returns-3
 returns-3 c =
     let s = c .before .before .before .before .before .before .before .before .before in
-    refuses (s .args .file .now) (s .args .buffer .now) 22 0 (c .refused2 .result) (out-of-order (s .args .file .now) (s .args .header) (s .pre) (c .before .before .before .before .before .if1 .left) _ (sym (c .before .before .before .pcm-run .ensures) ∙ ap pcmIn (c .before .enum-told .given .1))) (c .refused2 .ensures)
+    refuses (s .args .file .now) (s .args .buffer .now) 22 0 (c .refused2 .result) (out-of-order (s .pre) (c .before .before .before .before .before .if1 .left) _ (sym (c .before .before .before .pcm-run .ensures) ∙ ap pcmIn (c .before .enum-told .given .1))) (c .refused2 .ensures)
 
 pub repack-accepted-spec : {M : Type 1} → statement M
 repack-accepted-spec =

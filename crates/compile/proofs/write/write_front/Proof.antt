@@ -1,7 +1,7 @@
 -- `compile::write::write_front` meets its contract. Assumes nothing.
-use Prim.Native.Nat.{ℕ, _+_, _*_, _≤_, _<_}
-use mathlib.Core.Path.{_≡_, refl, sym, ap, _∙_}
-use mathlib.Core.List.{List, [], _++_, append-nil}
+use Prim.Native.Nat.{_+_}
+use mathlib.Core.Path.{refl, sym, ap, _∙_}
+use mathlib.Core.List.{[], _++_, append-nil}
 use native.Mathlib.Omega.{arith}
 use borrow.Author.Needs.{needs}
 use lib.ListN.{length}
@@ -13,7 +13,6 @@ use Rattle.repack.specs.Result.{pcmBytes}
 use Rattle.written.specs.Items.{directoryOf}
 use Rattle.written.proofs.Writing.{starts, wrote, ends}
 use Rattle.repack_write.specs.Parts.{wavesBytes}
-use Rattle.repack_write.proofs.Parts.{waves-size}
 use Rattle.compile.specs.Layout.{newHeader, frontOf}
 use Rattle.compile.proofs.Numbers.{directory-long, header-long, new-version, front-is, front-size}
 use Rattle.compile.proofs.write.write_front.Statement.{statement}
@@ -68,10 +67,10 @@ returns c =
     let d = directoryOf (a .pcm) (a .waves) (a .layout .payloads) in
     let b = pcmBytes file (a .header .«initial_count») 20 in
     let w = wavesBytes file places 0 (a .waves) in
-    let long = front-size file (a .header) (a .pcm) (a .waves) (a .layout) places (a .buffer .now) p in
+    let long = front-size p in
     let header-puts = c .before .before .before .before .before .before .before .before .before .before .before .before .before .before .put-header .ensures ∙ ap (λ (x : Header). put (bytesOfAll (headerFields x)) 0 (a .buffer .now)) (c .before .before .before .before .before .before .before .before .before .before .before .before .before .before .before .new-header .ensures) in
     let w₀ = starts (frontOf file (a .header) (a .pcm) (a .waves) (a .layout) places) 0 (a .buffer .now) (omega arith) in
-    let w₁ = wrote w₀ h (d ++ (b ++ w)) 40 {place′ = 40} (front-is file (a .header) (a .pcm) (a .waves) (a .layout) places) (header-long (a .header) (a .layout)) refl header-puts in
+    let w₁ = wrote w₀ h (d ++ (b ++ w)) 40 {place′ = 40} (front-is p) (header-long (a .header) (a .layout)) refl header-puts in
     let w₂ = wrote w₁ d (b ++ w) (length d) {place′ = a .layout .payloads} refl refl (omega (arith, p .payloads-at, directory-long (a .pcm) (a .waves) (a .layout .payloads))) (c .before .before .before .before .before .before .before .before .before .before .put-directory .ensures) in
     let w₃ = wrote w₂ b w (a .pcm) refl (p .pcm-is) refl (c .before .before .before .before .before .before .put-pcm .ensures) in
     let done = wrote w₃ w [] (length w) {place′ = a .layout .payloads + a .pcm + length w} (sym (append-nil w)) refl refl (c .before .before .put-waves .ensures) in

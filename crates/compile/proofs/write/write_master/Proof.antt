@@ -1,7 +1,7 @@
 -- `compile::write::write_master` meets its contract. Assumes nothing.
-use Prim.Native.Nat.{ℕ, _+_, _*_, _≤_, _<_}
-use mathlib.Core.Path.{_≡_, refl, sym, ap, _∙_}
-use mathlib.Core.List.{List, [], _++_, append-nil}
+use Prim.Native.Nat.{_+_, _*_}
+use mathlib.Core.Path.{refl, sym}
+use mathlib.Core.List.{[], _++_, append-nil}
 use native.Mathlib.Omega.{arith}
 use borrow.Author.Needs.{needs}
 use lib.ListN.{length}
@@ -34,15 +34,15 @@ write-front-requires : tie.Need-write-front-requires
 write-front-requires c κs =
     let a = c .before .before .before .before .before .args in
     let p = c .before .before .before .before .before .pre in
-    front-fits (a .file .now) (a .header) (a .heads .now) (a .next .now) (a .places .now) (a .pcm) (a .waves) (a .size) (p .0) (a .layout) (p .1) (a .buffer .now) (p .2) (p .3)
+    front-fits (p .0) (p .1) (a .buffer .now) (p .2) (p .3)
 
 put-opening-requires : tie.Need-put-opening-requires
 put-opening-requires c κs =
     let a = c .before .before .before .before .before .before .before .before .before .args in
     let p = c .before .before .before .before .before .before .before .before .before .pre in
-    let ends-at = frames-at (a .file .now) (a .header) (a .heads .now) (a .next .now) (a .places .now) (a .pcm) (a .waves) (a .size) (p .0) (a .layout) (p .1) in
-    let all-at = total-at (a .file .now) (a .header) (a .heads .now) (a .next .now) (a .places .now) (a .pcm) (a .waves) (a .size) (p .0) (a .layout) (p .1) in
-    (p .0 .opening-fits, omega arith, omega (arith, pcm-few (a .file .now) (a .header) (a .heads .now) (a .next .now) (a .places .now) (a .pcm) (a .waves) (a .size) (p .0)))
+    let ends-at = frames-at (p .0) (p .1) in
+    let all-at = total-at (p .0) (p .1) in
+    (p .0 .opening-fits, omega arith, omega (arith, pcm-few (p .0)))
 
 pcm-pool-requires : tie.Need-pcm-pool-requires
 pcm-pool-requires c κs = search needs
@@ -51,7 +51,7 @@ put-frames-requires : tie.Need-put-frames-requires
 put-frames-requires c κs =
     let a = c .before .before .before .before .before .before .before .before .before .before .before .before .before .before .args in
     let p = c .before .before .before .before .before .before .before .before .before .before .before .before .before .before .pre in
-    let all-at = total-at (a .file .now) (a .header) (a .heads .now) (a .next .now) (a .places .now) (a .pcm) (a .waves) (a .size) (p .0) (a .layout) (p .1) in
+    let all-at = total-at (p .0) (p .1) in
     let pool = c .before .pcm-pool .ensures in
     (p .0 .measured .table, p .0 .frames-fit, pool .1, rw (pool .0) (omega arith))
 
@@ -67,13 +67,13 @@ returns c =
     let f = frontOf file (a .header) (a .pcm) (a .waves) (a .layout) places in
     let o = openingPart file (a .header .«initial_count») (a .pcm) in
     let r = frameBytes (pcmPool (a .pcm)) (wavesIn file places (a .waves)) file (a .header .«frame_count») (20 + a .header .«initial_count» * 5) in
-    let total = total-is file (a .header) (a .heads .now) (a .next .now) places (a .pcm) (a .waves) (a .size) (p .0) (a .layout) (p .1) in
-    let parts = parts-are file (a .header) (a .heads .now) (a .next .now) places (a .pcm) (a .waves) (a .size) (p .0) (a .layout) (p .1) in
-    let fits = front-fits file (a .header) (a .heads .now) (a .next .now) places (a .pcm) (a .waves) (a .size) (p .0) (a .layout) (p .1) (a .buffer .now) (p .2) (p .3) in
-    let opens = front-size file (a .header) (a .pcm) (a .waves) (a .layout) places (a .buffer .now) fits in
+    let total = total-is (p .0) (p .1) in
+    let parts = parts-are (p .0) (p .1) in
+    let fits = front-fits (p .0) (p .1) (a .buffer .now) (p .2) (p .3) in
+    let opens = front-size fits in
     let w₀ = starts (written (repacked (masterOf file (a .header)))) 0 (a .buffer .now) (omega arith) in
     let w₁ = wrote w₀ f (o ++ r) (length f) {place′ = a .layout .opening} parts refl (omega arith) (c .before .before .before .before .before .before .before .before .before .before .before .write-front .ensures) in
-    let w₂ = wrote w₁ o r (length o) {place′ = a .layout .frames} refl refl (frames-at file (a .header) (a .heads .now) (a .next .now) places (a .pcm) (a .waves) (a .size) (p .0) (a .layout) (p .1)) (c .before .before .before .before .before .before .before .put-opening .ensures) in
+    let w₂ = wrote w₁ o r (length o) {place′ = a .layout .frames} refl refl (frames-at (p .0) (p .1)) (c .before .before .before .before .before .before .before .put-opening .ensures) in
     let done = wrote w₂ r [] (length r) {place′ = a .layout .frames + length r} (sym (append-nil r)) refl refl (rw (c .before .before .before .before .pcm-pool .ensures .0) at (c .before .before .put-frames .ensures)) in
     ends done refl .0
 

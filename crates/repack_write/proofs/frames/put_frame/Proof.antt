@@ -1,9 +1,8 @@
 -- `repack_write::frames::put_frame` meets its contract. Assumes nothing.
-use Prim.Native.Nat.{ℕ, _+_}
-use mathlib.Core.Path.{_≡_, refl, sym, ap, _∙_}
+use Prim.Native.Nat.{_+_}
+use mathlib.Core.Path.{sym, _∙_}
 use native.Mathlib.Omega.{arith}
 use borrow.Author.Needs.{needs}
-use lib.ListN.{length}
 use Rattle.format.specs.Bytes.{be, bytesOf}
 use Rattle.round_trip.proofs.Places.{length-bytesOf}
 use Rattle.repack.specs.Table.{wavesIn}

@@ -1,11 +1,9 @@
 -- `repack_write::frames::put_frames` meets its contract: the frames still to write, behind those that stand, are the whole. Assumes nothing.
 use Prim.Native.Nat.{_+_, _-_, _*_, _≤_}
-use mathlib.Core.Path.{_≡_, refl, sym, ap, _∙_}
-use mathlib.Core.List.{List}
+use mathlib.Core.Path.{_≡_, refl, ap, _∙_}
 use native.Mathlib.Omega.{arith}
 use borrow.Author.Needs.{needs}
 use lib.ListN.{length, length-append}
-use Rattle.format.specs.Bytes.{be}
 use Rattle.repack.specs.Places.{framesEnd, behindFrame}
 use Rattle.repack.specs.Table.{wavesIn}
 use Rattle.repack.specs.Result.{frameBytes}

@@ -1,15 +1,11 @@
 -- `repack_write::frames::put_pieces` meets its contract: the pieces still to write, behind those that stand, are the whole. Assumes nothing.
-use Prim.Native.Nat.{ℕ, _+_, _-_, _*_, _≤_, _<_}
+use Prim.Native.Nat.{ℕ, _+_, _-_, _*_}
 use mathlib.Core.Path.{_≡_, refl, sym, ap, _∙_}
-use mathlib.Core.List.{List}
-use mathlib.Core.Bool.{true, false}
 use mathlib.Core.Logic.{⊎-elim}
 use native.Mathlib.Omega.{arith}
 use borrow.Author.Needs.{needs}
-use lib.ListN.{length, length-append}
-use Rattle.format.specs.Repack.{startsWave}
 use Rattle.format.specs.Written.{itemBytes}
-use Rattle.repack.specs.Places.{recordOf, recordsAt}
+use Rattle.repack.specs.Places.{recordOf}
 use Rattle.repack.specs.Table.{wavesIn}
 use Rattle.repack.specs.Result.{pieceCount, pieceBytes}
 use Rattle.repack.proofs.Pieces.{wave-long}

@@ -1,5 +1,4 @@
 -- `repack_write::frames::put_wave_copy` meets its contract. Assumes nothing.
-use mathlib.Core.Path.{_≡_, refl, sym, ap, _∙_}
 use native.Mathlib.Omega.{arith}
 use borrow.Author.Needs.{needs}
 use Rattle.repack_write.specs.Parts.{waveCopy}

@@ -8,7 +8,7 @@ use lib.ListN.{length, length-append}
 use Rattle.repack.specs.Result.{coreBytes}
 use Rattle.repack_write.specs.Parts.{fillPart, copyPart, openingPart}
 use Rattle.repack_write.proofs.Parts.{opening-is}
-use Rattle.written.proofs.Writing.{Writing, starts, wrote, ends}
+use Rattle.written.proofs.Writing.{starts, wrote, ends}
 use Rattle.repack_write.proofs.opening.put_opening.Statement.{statement}
 use Rattle.repack_write.proofs.opening.put_opening.Tie as tie
 

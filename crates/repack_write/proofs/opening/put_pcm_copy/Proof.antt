@@ -1,11 +1,8 @@
 -- `repack_write::opening::put_pcm_copy` meets its contract. Assumes nothing.
-use Prim.Native.Nat.{ℕ}
-use mathlib.Core.Path.{_≡_, refl, sym, ap, _∙_}
-use mathlib.Core.List.{List}
+use mathlib.Core.Path.{sym, ap}
 use native.Mathlib.Omega.{arith}
 use borrow.Author.Needs.{needs}
 use lib.ListN.{length}
-use Rattle.big_endian.specs.Put.{put}
 use Rattle.written.proofs.Items.{copy-size}
 use Rattle.written.proofs.Sequence.{put-none}
 use Rattle.repack_write.proofs.Parts.{no-copy, some-copy}

@@ -1,10 +1,9 @@
 -- `repack_write::payloads::put_wave` meets its contract: the bytes still to write, behind those that stand, are the whole. Assumes nothing.
-use Prim.Native.Nat.{_+_, _-_, _*_, _≤_}
-use mathlib.Core.Path.{_≡_, refl, sym, ap, _∙_}
-use mathlib.Core.List.{List, [], _∷_}
+use Prim.Native.Nat.{_+_, _-_, _*_}
+use mathlib.Core.Path.{_≡_, refl}
+use mathlib.Core.List.{[], _∷_}
 use native.Mathlib.Omega.{arith}
 use borrow.Author.Needs.{needs}
-use lib.ListN.{length}
 use Rattle.format.specs.Bytes.{byte}
 use Rattle.repack.specs.Places.{valuesAt}
 use Rattle.repack.proofs.Pieces.{values-next, values-none, values-count}

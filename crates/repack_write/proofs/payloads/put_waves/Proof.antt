@@ -1,9 +1,9 @@
 -- `repack_write::payloads::put_waves` meets its contract: the waves still to write, behind those that stand, are the whole. Assumes nothing.
-use Prim.Native.Nat.{_+_, _-_, _*_, _≤_}
-use mathlib.Core.Path.{_≡_, refl, sym, ap, _∙_}
+use Prim.Native.Nat.{_+_, _-_, _≤_}
+use mathlib.Core.Path.{_≡_, refl}
 use native.Mathlib.Omega.{arith}
 use borrow.Author.Needs.{needs}
-use lib.ListN.{length, getD}
+use lib.ListN.{getD}
 use Rattle.repack.specs.Table.{waveAt}
 use Rattle.repack_write.specs.Parts.{wavesBytes}
 use Rattle.repack_write.proofs.Parts.{wave-size, waves-none, waves-next, waves-size}

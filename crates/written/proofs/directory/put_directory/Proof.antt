@@ -1,9 +1,8 @@
 -- `written::directory::put_directory` meets its contract. Assumes nothing.
 use Prim.Native.Nat.{_+_}
-use mathlib.Core.Path.{_≡_, refl, sym, ap, _∙_}
+use mathlib.Core.Path.{sym}
 use native.Mathlib.Omega.{arith}
 use borrow.Author.Needs.{needs}
-use lib.ListN.{length, length-append}
 use Rattle.written.specs.Items.{entryBytes, waveEntries}
 use Rattle.written.proofs.Sequence.{put-next}
 use Rattle.written.proofs.Items.{entry-size, directory-plain, directory-pcm, directory-some, directory-none}

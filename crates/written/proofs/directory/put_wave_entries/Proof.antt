@@ -1,9 +1,8 @@
 -- `written::directory::put_wave_entries` meets its contract: the entries still to write, behind those that stand, are the whole. Assumes nothing.
-use Prim.Native.Nat.{_+_, _-_, _*_, _≤_, _<_}
-use mathlib.Core.Path.{_≡_, refl, sym, ap, _∙_}
+use Prim.Native.Nat.{_+_, _-_, _*_}
+use mathlib.Core.Path.{_≡_, refl}
 use native.Mathlib.Omega.{arith}
 use borrow.Author.Needs.{needs}
-use lib.ListN.{length}
 use Rattle.written.specs.Items.{entryBytes, waveEntries}
 use Rattle.written.proofs.Items.{entry-size, entries-none, entries-next, entries-size}
 use Rattle.written.proofs.Writing.{Writing, starts, wrote, ends}
