@@ -1,0 +1,46 @@
+-- `compile::song::compile_song_v2` meets its contract. Assumes nothing.
+use mathlib.Core.Path.{refl}
+use borrow.Author.Needs.{needs}
+use Rattle.compile.specs.declared.song.Repacked.the-variants.{Refused}
+use Rattle.file_check.proofs.Answers.{accepted-as, refused-as}
+use Rattle.compile.proofs.Answers.{refuses, not-read}
+use Rattle.compile.proofs.song.compile_song_v2.Statement.{statement}
+use Rattle.compile.proofs.song.compile_song_v2.Tie as tie
+
+check-file-requires : tie.Need-check-file-requires
+check-file-requires c κs = search needs
+
+enum-known-answer : tie.Need-enum-known-answer
+enum-known-answer c = search needs
+
+repack-accepted-requires : tie.Need-repack-accepted-requires
+repack-accepted-requires c κs =
+    let found = accepted-as (c .before .before .before .before .before .before .before .args .file .now) _ _ _ (c .before .before .before .before .check-file .ensures) (c .before .before .answer .given .1) in
+    record { stream = found .stream; reads = found .reads; header-is = found .header-is }
+
+enum-known-answer-2 : tie.Need-enum-known-answer-2
+enum-known-answer-2 c = search needs
+
+same-length : tie.Need-same-length
+same-length c = search needs
+
+returns : tie.Need-returns
+returns c = search needs
+
+returns-2 : tie.Need-returns-2
+returns-2 c =
+    let s = c .before .before .before .before .before .before in
+    let found = refused-as (s .args .file .now) _ _ (c .before .before .before .check-file .ensures) (c .before .answer2 .given .1) .0 in
+    refuses (s .args .file .now) (s .args .buffer .now) _ _ (Refused (c .before .answer2 .given .0 .0)) (not-read (s .args .file .now) _ _ _ found) refl
+
+pub compile-song-v2-spec : {M : Type 1} → statement M
+compile-song-v2-spec =
+    tie.close
+    (tie.spec
+    check-file-requires
+    enum-known-answer
+    repack-accepted-requires
+    enum-known-answer-2
+    same-length
+    returns
+    returns-2)
