@@ -18,6 +18,7 @@ pub struct Started {
     pub waves: [WaveSource; 16],
 }
 
+// Refusal 25.
 fn refused_item(waves: [WaveSource; 16]) -> Started
     ensures { λ r. ⌜ (r .refused ≡ true) × (r .rest ≡ 0) ⌝ }
 {

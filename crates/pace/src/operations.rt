@@ -28,7 +28,7 @@ pub fn operations_left(progress: Progress) -> u32
 }
 
 fn answer(refused: bool, room: usize, progress: Progress) -> Paced
-    ensures { λ r. ⌜ (r ≡ (record { refused = refused; room = room; progress = progress })) ⌝ }
+    ensures { λ r. ⌜ r ≡ record { refused = refused; room = room; progress = progress } ⌝ }
 {
     Paced {
         refused: refused,
@@ -37,7 +37,7 @@ fn answer(refused: bool, room: usize, progress: Progress) -> Paced
     }
 }
 
-// Without room nothing is read.
+// The operations from the progress on, for as many writes as there is room for. Without room nothing is read.
 pub fn pace(
     file: &[u8],
     state: StreamPlayer,

@@ -7,6 +7,7 @@ ghost use Rattle.format.specs.Pace.{countOf};
 ghost use Rattle.format.specs.Player.{wavesBy};
 ghost use Rattle.pace.specs.Told.{wavesWith, wavesNow};
 
+// How many writes an operation makes.
 pub fn count_of(operation: Operation) -> u32
     ensures { λ r. ⌜ r ≡ countOf operation ⌝ }
 {

@@ -36,7 +36,7 @@ abbrev pub takenTold : StreamPlayer → Taken → CallPlan
 takenTold state t =
     cond (t .refused) (noPlan state) (record { refused = false; count = t .count; complete = t .complete; next = moved state (t .progress) })
 
--- of the room that was left of so much
+-- of so much room: all that is not left of it
 abbrev pub takenBy : (room : ℕ) → Paced → Taken
 takenBy room r = record { refused = r .refused; count = room - r .room; complete = false; progress = r .progress }
 

@@ -25,7 +25,7 @@ pub fn refused_part(progress: Progress) -> Taken
     }
 }
 
-// What is taken of the room that was left of so much.
+// What was taken of so much room: all that is not left of it.
 pub fn taken_by(room: usize, paced: Paced) -> Taken
     requires { ⌜ paced .room ≤ room ⌝ }
     ensures { λ r. ⌜ r ≡ takenBy room paced ⌝ }

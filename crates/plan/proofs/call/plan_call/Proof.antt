@@ -1,8 +1,7 @@
 -- `plan::call::plan_call` meets its contract. Assumes nothing.
 use borrow.Author.Needs.{needs}
 use Rattle.format.specs.Pace.{planned}
-use Rattle.plan.proofs.Telling.{told-25}
-use Rattle.plan.proofs.Begins.{planned-on}
+use Rattle.plan.proofs.Begins.{planned-foreign, planned-own}
 use Rattle.plan.proofs.call.plan_call.Statement.{statement}
 use Rattle.plan.proofs.call.plan_call.Tie as tie
 
@@ -19,7 +18,7 @@ refused-plan-requires c κs = search needs
 returns-2 : tie.Need-returns-2
 returns-2 c =
     let a = c .before .before .before .before .before .before .args in
-    rw (planned-on (a .state) (a .file .now) (a .room) (c .before .before .before .if1 .left), ← (c .before .before .foreign .ensures), c .before .if2 .taken) (c .refused-plan .ensures)
+    planned-foreign (a .state) (a .file .now) (a .room) (c .before .before .foreign .result) _ (c .before .before .before .if1 .left) (c .before .before .foreign .ensures) (c .before .if2 .taken) (c .refused-plan .ensures)
 
 plan-part-requires : tie.Need-plan-part-requires
 plan-part-requires c κs = search needs
@@ -30,7 +29,7 @@ told-requires c κs = search needs
 returns-3 : tie.Need-returns-3
 returns-3 c =
     let a = c .before .before .before .before .before .before .before .args in
-    rw (planned-on (a .state) (a .file .now) (a .room) (c .before .before .before .before .if1 .left), ← (c .before .before .before .foreign .ensures), c .before .before .if2 .left, told-25, c .told .ensures) (c .before .plan-part .ensures)
+    planned-own (a .state) (a .file .now) (a .room) (c .before .before .before .foreign .result) (c .before .plan-part .result) _ (c .before .before .before .before .if1 .left) (c .before .before .before .foreign .ensures) (c .before .before .if2 .left) (c .told .ensures) (c .before .plan-part .ensures)
 
 pub plan-call-spec : {M : Type 1} → statement M
 plan-call-spec =

@@ -1,7 +1,6 @@
 -- `plan::call::plan_part` meets its contract. Assumes nothing.
 use borrow.Author.Needs.{needs}
 use Rattle.plan.proofs.Begins.{goes-between, goes-opening, goes-frame, goes-closing}
-use Rattle.plan.proofs.Telling.{told-closing}
 use Rattle.plan.proofs.call.plan_part.Statement.{statement}
 use Rattle.plan.proofs.call.plan_part.Tie as tie
 
@@ -32,22 +31,22 @@ plan-closing-requires c κs = search needs
 returns : tie.Need-returns
 returns c =
     let a = c .before .before .before .before .args in
-    rw (goes-between (a .state) (a .file .now) (a .room) (a .progress) (a .progress .part) (c .before .enum-told .given .1)) (c .plan-between .ensures)
+    goes-between (a .state) (a .file .now) (a .room) (a .progress) _ (a .progress .part) (c .before .enum-told .given .1) (c .plan-between .ensures)
 
 returns-2 : tie.Need-returns-2
 returns-2 c =
     let a = c .before .before .before .before .args in
-    rw (goes-opening (a .state) (a .file .now) (a .room) (a .progress) (a .progress .part) (c .before .enum-told2 .given .1)) (c .plan-opening .ensures)
+    goes-opening (a .state) (a .file .now) (a .room) (a .progress) _ (a .progress .part) (c .before .enum-told2 .given .1) (c .plan-opening .ensures)
 
 returns-3 : tie.Need-returns-3
 returns-3 c =
     let a = c .before .before .before .before .args in
-    rw (goes-frame (a .state) (a .file .now) (a .room) (a .progress) (a .progress .part) (c .before .enum-told3 .given .1)) (c .plan-frame .ensures .0)
+    goes-frame (a .state) (a .file .now) (a .room) (a .progress) _ (a .progress .part) (c .before .enum-told3 .given .1) (c .plan-frame .ensures .0)
 
 returns-4 : tie.Need-returns-4
 returns-4 c =
     let a = c .before .before .before .before .args in
-    rw (goes-closing (a .state) (a .file .now) (a .room) (a .progress) (a .progress .part) (c .before .enum-told4 .given .1), c .plan-closing .ensures) (told-closing (a .state) (a .room) (a .progress))
+    goes-closing (a .state) (a .file .now) (a .room) (a .progress) _ (a .progress .part) (c .before .enum-told4 .given .1) (c .plan-closing .ensures)
 
 pub plan-part-spec : {M : Type 1} → statement M
 plan-part-spec =
