@@ -1,10 +1,15 @@
 // The static library's surface: include/sgub.h declares these functions for C, rust/sgub for Rust.
+mod play;
+
 use file_check::FileAnswer;
 use file_check::PoolFound;
 use format::CardRequirement;
 use format::CardTable;
 use format::Header;
 use format::Pool;
+pub use play::SgubStarted;
+pub use play::sgub_advance_vsync;
+pub use play::sgub_start;
 ghost use mathlib.Core.Path.{_≡_};
 ghost use Rattle.format.specs.Pool.{poolAt};
 ghost use Rattle.file_check.specs.Answer.{recorded};

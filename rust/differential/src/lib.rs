@@ -27,6 +27,7 @@ pub mod messages;
 pub mod model;
 pub mod mutate;
 pub mod oracle;
+pub mod playing;
 pub mod rng;
 pub mod shapes;
 pub mod sheet;

@@ -27,13 +27,31 @@ fn bad_usage_is_status_2() {
         &["explain", "--al", "examples/empty-1.sgub"],
         "no option --al",
     );
+    refused(&["play"], "play takes one file");
+    refused(&["play", "--sum", "x"], "no option --sum");
+    refused(
+        &["play", "x", "--vsyncs"],
+        "--vsyncs needs a number from 0 to 18446744073709551615",
+    );
+    for run in ["0", "-1", "16777217", "x"] {
+        refused(
+            &["play", "--run", run, "x"],
+            "--run needs a number from 1 to 16777216",
+        );
+    }
 }
 
 #[test]
 fn help_names_every_command() {
     let output = sgub(["help"]).output().unwrap();
     let text = String::from_utf8(output.stdout).unwrap();
-    for command in ["check FILE...", "explain [--all] FILE", "help", "--version"] {
+    for command in [
+        "check FILE...",
+        "explain [--all] FILE",
+        "play [OPTION]... FILE",
+        "help",
+        "--version",
+    ] {
         assert!(text.contains(&format!("  sgub {command} ")), "{command}");
     }
     assert_eq!(output.status.code(), Some(0));

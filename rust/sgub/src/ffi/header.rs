@@ -1,6 +1,9 @@
 //! Holds the declarations of this module against `include/sgub.h`, by a C compiler.
 
-use super::{Card, Pool, PoolEntry, Verdict};
+use super::{
+    Card, CardTable, Header, Player, Pool, PoolEntry, Started, Verdict, Vsync, WaveSource,
+};
+use crate::WriteRecord;
 use std::mem::offset_of;
 use std::path::{Path, PathBuf};
 use std::process::Command;
@@ -31,7 +34,7 @@ fn size_of_field<S, F>(_: fn(&S) -> &F) -> usize {
     size_of::<F>()
 }
 
-fn layouts() -> [Layout; 4] {
+fn layouts() -> [Layout; 11] {
     [
         layout!(
             "sgub_verdict",
@@ -74,6 +77,65 @@ fn layouts() -> [Layout; 4] {
             }
         ),
         layout!("sgub_pool_entry", PoolEntry { kind, size, offset }),
+        layout!(
+            "sgub_header",
+            Header {
+                version,
+                repeat,
+                frame_period,
+                card_count,
+                frame_count,
+                pool_count,
+                initial_count,
+                directory_offset,
+                initial_start,
+                frame_start,
+                total_size,
+            }
+        ),
+        layout!("sgub_card_table", CardTable { cards, count }),
+        layout!("sgub_wave_source", WaveSource { copied, pool }),
+        layout!(
+            "sgub_player",
+            Player {
+                header,
+                cards,
+                uses_si22,
+                part,
+                initialized,
+                finished,
+                operation_index,
+                operation_count,
+                write_index,
+                frame_index,
+                cursor,
+                wave_sources,
+            }
+        ),
+        layout!(
+            "sgub_started",
+            Started {
+                number,
+                place,
+                player,
+            }
+        ),
+        layout!(
+            "sgub_write",
+            WriteRecord {
+                target,
+                address,
+                value,
+            }
+        ),
+        layout!(
+            "sgub_vsync",
+            Vsync {
+                number,
+                count,
+                complete,
+            }
+        ),
     ]
 }
 
@@ -103,6 +165,9 @@ struct sgub_card sgub_card(const unsigned char *, unsigned long, unsigned long);
 struct sgub_pool sgub_pool(const unsigned char *, unsigned long, unsigned short);
 struct sgub_pool_entry sgub_pool_entry(
     const unsigned char *, unsigned long, unsigned int, unsigned short);
+struct sgub_started sgub_start(const unsigned char *, unsigned long);
+struct sgub_vsync sgub_advance_vsync(
+    struct sgub_player *, const unsigned char *, unsigned long, struct sgub_write *, unsigned long);
 ";
 
 /// P3 of the format sheet, and P3 with another version.

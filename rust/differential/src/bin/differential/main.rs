@@ -3,8 +3,10 @@
 
 mod bench;
 mod commands;
+mod plays;
 mod selftest;
 mod verdicts;
+mod work;
 
 use std::env;
 use std::error::Error;
@@ -19,7 +21,8 @@ const USAGE: &str = "usage: differential verdict FILE...
        differential examples DIRECTORY
        differential vectors DIRECTORY COUNT
        differential verdicts COUNT [SEED]
-       differential bench
+       differential plays COUNT [SEED]
+       differential bench [play]
        differential selftest [COUNT]
        differential speed [COUNT]";
 
@@ -57,6 +60,8 @@ fn run(arguments: &[&str], out: &mut impl Write) -> Answer {
         ["vectors", directory, count] => commands::write_vectors(directory, count.parse()?, out),
         ["verdicts", count] => verdicts::verdicts(count.parse()?, 1, out),
         ["verdicts", count, seed] => verdicts::verdicts(count.parse()?, seed.parse()?, out),
+        ["plays", count] => plays::plays(count.parse()?, 1, out),
+        ["plays", count, seed] => plays::plays(count.parse()?, seed.parse()?, out),
         ["bench"] => bench::bench(out),
         ["selftest"] => selftest::selftest(1000, out),
         ["selftest", count] => selftest::selftest(count.parse()?, out),
