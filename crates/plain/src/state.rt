@@ -5,6 +5,7 @@ use format::Part;
 use format::Progress;
 use format::StreamPlayer;
 use format::WaveSource;
+use state::part_number;
 ghost use mathlib.Core.Path.{_≡_};
 ghost use Rattle.plain.specs.State.{partOf, stateOf, playerFields};
 
@@ -77,7 +78,7 @@ pub fn player_of(state: StreamPlayer) -> SgubPlayer
         header: header,
         cards: cards,
         uses_si22: state.uses_si22,
-        part: progress.part_number(),
+        part: part_number(progress),
         initialized: progress.initialized,
         finished: progress.finished,
         operation_index: progress.operation_index,
