@@ -1,3 +1,4 @@
 pub mod Answers
+pub mod Compiled
 pub mod Made
 pub mod Numbers
