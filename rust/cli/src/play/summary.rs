@@ -3,8 +3,8 @@
 use sgub::WriteRecord;
 use std::io::{self, Write};
 
-/// Writes by target. The library gives targets 0 to 11; the others stay 0.
-type Counts = [u64; 256];
+/// Writes by target, 0 to 11: rule 15 of the format sheet refuses every other.
+type Counts = [u64; 12];
 
 /// The counts of the vsync that is playing, and of all before it.
 pub struct Summary {
@@ -14,15 +14,21 @@ pub struct Summary {
 
 /// Prints what the columns are.
 pub fn head(out: &mut impl Write) -> io::Result<()> {
-    row(out, "vsync", "writes", "twice as many: a # more", "target:writes")
+    row(
+        out,
+        "vsync",
+        "writes",
+        "twice as many: a # more",
+        "target:writes",
+    )
 }
 
 impl Summary {
     /// Nothing was played.
     pub fn new() -> Self {
         Self {
-            vsync: [0; 256],
-            all: [0; 256],
+            vsync: [0; 12],
+            all: [0; 12],
         }
     }
 
@@ -60,13 +66,7 @@ fn counts(out: &mut impl Write, name: &str, counts: &Counts) -> io::Result<()> {
 }
 
 /// A row of the table, with no spaces at its end.
-fn row(
-    out: &mut impl Write,
-    name: &str,
-    writes: &str,
-    bar: &str,
-    targets: &str,
-) -> io::Result<()> {
+fn row(out: &mut impl Write, name: &str, writes: &str, bar: &str, targets: &str) -> io::Result<()> {
     let row = format!("{name:>7} {writes:>9}  {bar:<23}  {targets}");
     writeln!(out, "{}", row.trim_end())
 }
