@@ -78,7 +78,12 @@ impl Comparison {
     /// # Errors
     /// What is not the same.
     pub fn play(&mut self, file: &[u8]) -> Result<(), String> {
-        let mut original = oracle::Player::new(file)?;
+        self.play_beside(file, file)
+    }
+
+    /// Plays a file in the library beside a file in the original.
+    fn play_beside(&mut self, file: &[u8], theirs: &[u8]) -> Result<(), String> {
+        let mut original = oracle::Player::new(theirs)?;
         let mut player =
             StreamPlayer::start(file).map_err(|refusal| format!("library {refusal:?}"))?;
         let frames = player.frame_count();
@@ -109,8 +114,8 @@ impl Comparison {
                 self.foreign(player, file)?;
             }
             let room = self.rng.pick(RUNS);
-            let left = self.vsync.writes.len() + self.vsync.device_writes.len()
-                - (writes + device_writes);
+            let left =
+                self.vsync.writes.len() + self.vsync.device_writes.len() - (writes + device_writes);
             let told = player
                 .advance_vsync(file, &mut self.run[..room])
                 .map_err(|OtherFile| String::from("the library refuses its own file"))?;
@@ -184,4 +189,50 @@ fn state(player: &StreamPlayer, original: &oracle::Player) -> Result<(), String>
         return Err(format!("library {ours:?}, original {theirs:?}"));
     }
     Ok(())
+}
+
+#[cfg(test)]
+mod tests {
+    use super::*;
+    use crate::examples;
+
+    fn example(name: &str) -> Vec<u8> {
+        let mut all = examples::all().into_iter();
+        all.find(|example| example.name == name).unwrap().file
+    }
+
+    #[test]
+    fn the_examples_play_alike() {
+        let mut comparison = Comparison::new(1);
+        for name in [
+            "empty-1", "empty-2", "empty-4", "tune-1", "tune-2", "bank-3",
+        ] {
+            comparison.play(&example(name)).unwrap();
+        }
+        comparison.play(&example("cards-4")).unwrap();
+        let files = [[2, 2, 0, 2], [0, 0, 1, 0]];
+        assert_eq!(comparison.played().files, files);
+    }
+
+    /// The original plays a file in which one byte is another.
+    #[test]
+    fn a_difference_is_noticed() {
+        for (name, at, text) in [
+            // the value of an opening record, and its address
+            ("tune-1", 24, "library WriteRecord"),
+            ("tune-1", 23, "library WriteRecord"),
+            // whether it repeats
+            ("tune-1", 6, "left"),
+            // a byte of the wave pool, and of the card pool
+            ("cards-4", 160, "library WriteRecord"),
+            ("cards-4", 420, "library WriteRecord"),
+        ] {
+            let file = example(name);
+            let mut other = file.clone();
+            other[at] ^= 1;
+            let answer = Comparison::new(1).play_beside(&file, &other);
+            let error = answer.expect_err(name);
+            assert!(error.contains(text), "{name} {at}: {error}");
+        }
+    }
 }

@@ -1,10 +1,11 @@
 //! How many writes each vsync has, by target, with a bar to look over.
 
 use sgub::WriteRecord;
+use std::fmt::Display;
 use std::io::{self, Write};
 
-/// Writes by target. The library gives targets 0 to 11; the others stay 0.
-type Counts = [u64; 256];
+/// Writes by target, 0 to 11: rule 15 of the format sheet refuses every other.
+type Counts = [u64; 12];
 
 /// The counts of the vsync that is playing, and of all before it.
 pub struct Summary {
@@ -12,17 +13,23 @@ pub struct Summary {
     all: Counts,
 }
 
+/// What the columns are.
+const HEAD: &str = "  vsync    writes  twice as many: a # more  target:writes";
+
+/// The longest bar: a # for each binary digit of a count.
+const BAR: &str = "################################################################";
+
 /// Prints what the columns are.
 pub fn head(out: &mut impl Write) -> io::Result<()> {
-    row(out, "vsync", "writes", "twice as many: a # more", "target:writes")
+    writeln!(out, "{HEAD}")
 }
 
 impl Summary {
     /// Nothing was played.
     pub fn new() -> Self {
         Self {
-            vsync: [0; 256],
-            all: [0; 256],
+            vsync: [0; 12],
+            all: [0; 12],
         }
     }
 
@@ -35,7 +42,7 @@ impl Summary {
 
     /// Prints the vsync, which is over.
     pub fn vsync(&mut self, out: &mut impl Write, number: u64) -> io::Result<()> {
-        counts(out, &number.to_string(), &self.vsync)?;
+        row(out, number, &self.vsync)?;
         for (all, vsync) in self.all.iter_mut().zip(&mut self.vsync) {
             *all += std::mem::take(vsync);
         }
@@ -44,29 +51,20 @@ impl Summary {
 
     /// Prints the sum of all vsyncs.
     pub fn total(&self, out: &mut impl Write) -> io::Result<()> {
-        counts(out, "all", &self.all)
+        row(out, "all", &self.all)
     }
 }
 
-fn counts(out: &mut impl Write, name: &str, counts: &Counts) -> io::Result<()> {
-    let writes: u64 = counts.iter().sum();
-    let bar = "#".repeat((u64::BITS - writes.leading_zeros()) as usize);
-    let targets: Vec<String> = (0..)
-        .zip(counts)
-        .filter(|(_, count)| **count > 0)
-        .map(|(target, count): (usize, _)| format!("{target}:{count}"))
-        .collect();
-    row(out, name, &writes.to_string(), &bar, &targets.join(" "))
-}
-
 /// A row of the table, with no spaces at its end.
-fn row(
-    out: &mut impl Write,
-    name: &str,
-    writes: &str,
-    bar: &str,
-    targets: &str,
-) -> io::Result<()> {
-    let row = format!("{name:>7} {writes:>9}  {bar:<23}  {targets}");
-    writeln!(out, "{}", row.trim_end())
+fn row(out: &mut impl Write, name: impl Display, counts: &Counts) -> io::Result<()> {
+    let writes: u64 = counts.iter().sum();
+    write!(out, "{name:>7} {writes:>9}")?;
+    if writes > 0 {
+        let bar = &BAR[..writes.ilog2() as usize + 1];
+        write!(out, "  {bar:<23} ")?;
+    }
+    for (target, count) in counts.iter().enumerate().filter(|(_, count)| **count > 0) {
+        write!(out, " {target}:{count}")?;
+    }
+    writeln!(out)
 }

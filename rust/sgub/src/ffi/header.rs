@@ -218,6 +218,66 @@ fn the_header_has_these_declarations_and_c_can_call_the_library() {
     assert_eq!(Command::new(program).status().unwrap().code(), Some(0));
 }
 
+/// The library itself has this layout: a player of version 4, unplayed and behind the first write of its second operation.
+#[test]
+fn the_library_has_these_declarations() {
+    let examples = Path::new(env!("CARGO_MANIFEST_DIR")).join("../../examples");
+    let file = fs::read(examples.join("cards-4.sgub")).unwrap();
+    let mut started = super::start(&file);
+    let verdict = super::check(&file);
+    let header = Header {
+        version: verdict.version,
+        repeat: verdict.repeats,
+        frame_period: verdict.frame_period,
+        card_count: verdict.card_count,
+        frame_count: verdict.frame_count,
+        pool_count: verdict.pool_count,
+        initial_count: verdict.initial_count,
+        directory_offset: verdict.directory_offset,
+        initial_start: verdict.initial_start,
+        frame_start: verdict.frame_start as usize,
+        total_size: verdict.total_size,
+    };
+    let unplayed = Player {
+        header,
+        cards: CardTable {
+            cards: std::array::from_fn(|index| super::card(&file, index)),
+            count: 2,
+        },
+        uses_si22: true,
+        part: 0,
+        initialized: false,
+        finished: false,
+        operation_index: 0,
+        operation_count: 0,
+        write_index: 0,
+        frame_index: 0,
+        cursor: header.frame_start,
+        wave_sources: [WaveSource {
+            copied: false,
+            pool: 0,
+        }; 16],
+    };
+    assert_eq!((started.number, started.place), (0, 0));
+    assert_eq!(started.player, unplayed);
+
+    // The opening begins with a COPY of a wave, 256 writes, which is 16 bytes long.
+    let mut run = [WriteRecord::default(); 258];
+    let vsync = super::advance_vsync(&mut started.player, &file, &mut run[..257]);
+    assert_eq!((vsync.number, vsync.count, vsync.complete), (0, 257, false));
+    let mut played = Player {
+        part: 1,
+        operation_index: 1,
+        operation_count: 4,
+        write_index: 1,
+        cursor: header.initial_start as usize + 16,
+        ..unplayed
+    };
+    played.wave_sources[1].copied = true;
+    assert_eq!(started.player, played);
+    assert_eq!(run[257], WriteRecord::default());
+}
+
 /// The comparison can fail: an offset off by one is refused, and so is a function with another parameter.
 #[test]
 fn other_declarations_are_refused() {

@@ -2,6 +2,7 @@
 #![forbid(unsafe_code)]
 
 mod bench;
+mod bench_play;
 mod commands;
 mod plays;
 mod selftest;
@@ -63,6 +64,7 @@ fn run(arguments: &[&str], out: &mut impl Write) -> Answer {
         ["plays", count] => plays::plays(count.parse()?, 1, out),
         ["plays", count, seed] => plays::plays(count.parse()?, seed.parse()?, out),
         ["bench"] => bench::bench(out),
+        ["bench", "play"] => bench_play::bench(out),
         ["selftest"] => selftest::selftest(1000, out),
         ["selftest", count] => selftest::selftest(count.parse()?, out),
         ["speed"] => selftest::speed(1_000_000, out),

@@ -27,7 +27,11 @@ pub fn plays(count: u64, seed: u64, out: &mut impl Write) -> Answer {
         return Ok(false);
     }
     let seconds = start.elapsed().as_secs_f64();
-    writeln!(out, "{:8}{:>14}{:>14}", "version", "played once", "repeating")?;
+    writeln!(
+        out,
+        "{:8}{:>14}{:>14}",
+        "version", "played once", "repeating"
+    )?;
     for (version, (once, repeating)) in (1..).zip(all.files[0].iter().zip(all.files[1])) {
         writeln!(out, "{version:<8}{once:>14}{repeating:>14}")?;
     }

@@ -52,9 +52,8 @@ impl Work {
         thread::scope(|scope| {
             let spawn = |thread| scope.spawn(move || run(thread));
             let handles: Vec<_> = (0..threads).map(spawn).collect();
-            let join = |handle: thread::ScopedJoinHandle<'_, C>| {
-                handle.join().expect("panics are caught")
-            };
+            let join =
+                |handle: thread::ScopedJoinHandle<'_, C>| handle.join().expect("panics are caught");
             handles.into_iter().map(join).collect()
         })
     }
