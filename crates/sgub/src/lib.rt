@@ -1,10 +1,14 @@
 // The static library's surface: include/sgub.h declares these functions for C, rust/sgub for Rust.
+mod repack;
+
 use file_check::FileAnswer;
 use file_check::PoolFound;
 use format::CardRequirement;
 use format::CardTable;
 use format::Header;
 use format::Pool;
+pub use repack::SgubRepacked;
+pub use repack::sgub_repack;
 ghost use mathlib.Core.Path.{_≡_};
 ghost use Rattle.format.specs.Pool.{poolAt};
 ghost use Rattle.file_check.specs.Answer.{recorded};
