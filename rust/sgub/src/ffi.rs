@@ -80,5 +80,7 @@ pub fn pool_entry(file: &[u8], directory_offset: u32, id: u16) -> PoolEntry {
     unsafe { sgub_pool_entry(file.as_ptr(), file.len(), directory_offset, id) }
 }
 
+pub mod repack;
+
 #[cfg(test)]
 mod header;

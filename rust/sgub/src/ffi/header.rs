@@ -1,5 +1,6 @@
 //! Holds the declarations of this module against `include/sgub.h`, by a C compiler.
 
+use super::repack::Repacked;
 use super::{Card, Pool, PoolEntry, Verdict};
 use std::mem::offset_of;
 use std::path::{Path, PathBuf};
@@ -31,7 +32,7 @@ fn size_of_field<S, F>(_: fn(&S) -> &F) -> usize {
     size_of::<F>()
 }
 
-fn layouts() -> [Layout; 4] {
+fn layouts() -> [Layout; 5] {
     [
         layout!(
             "sgub_verdict",
@@ -74,6 +75,14 @@ fn layouts() -> [Layout; 4] {
             }
         ),
         layout!("sgub_pool_entry", PoolEntry { kind, size, offset }),
+        layout!(
+            "sgub_repacked",
+            Repacked {
+                number,
+                place,
+                size,
+            }
+        ),
     ]
 }
 
@@ -103,6 +112,7 @@ struct sgub_card sgub_card(const unsigned char *, unsigned long, unsigned long);
 struct sgub_pool sgub_pool(const unsigned char *, unsigned long, unsigned short);
 struct sgub_pool_entry sgub_pool_entry(
     const unsigned char *, unsigned long, unsigned int, unsigned short);
+struct sgub_repacked sgub_repack(const unsigned char *, unsigned long, unsigned char *, unsigned long);
 ";
 
 /// P3 of the format sheet, and P3 with another version.
@@ -112,6 +122,13 @@ int main(void) {
     struct sgub_verdict verdict = sgub_check(file, sizeof file);
     if (verdict.number != 0 || verdict.version != 1 || verdict.total_size != 22)
         return 1;
+    uint8_t buffer[43] = {[42] = 0xA5};
+    struct sgub_repacked repacked = sgub_repack(file, sizeof file, buffer, 41);
+    if (repacked.number != 24 || repacked.size != 0 || buffer[0] != 0)
+        return 4;
+    repacked = sgub_repack(file, sizeof file, buffer, sizeof buffer);
+    if (repacked.number != 0 || repacked.size != 42 || buffer[4] != 2 || buffer[42] != 0xA5)
+        return 5;
     file[4] = 5;
     verdict = sgub_check(file, sizeof file);
     if (verdict.number != 3 || verdict.place != 0 || verdict.version != 0)
