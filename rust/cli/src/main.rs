@@ -5,6 +5,8 @@ mod check;
 mod explain;
 mod help;
 mod input;
+mod output;
+mod repack;
 mod status;
 
 use status::{Failure, Status};
@@ -30,6 +32,7 @@ fn run(arguments: &[OsString], out: &mut impl Write) -> Result<Status, Failure> 
     match command.to_str() {
         Some("check") => check::run(arguments, out),
         Some("explain") => explain::run(arguments, out),
+        Some("repack") => repack::run(arguments, out),
         Some("help" | "--help" | "-h") => help::help(out),
         Some("version" | "--version" | "-V") => help::version(out),
         _ => Err(Failure::usage(format!("no command {}", command.display()))),

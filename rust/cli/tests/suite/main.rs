@@ -3,6 +3,7 @@
 mod check;
 mod explain;
 mod launcher;
+mod repack;
 mod usage;
 
 use std::ffi::OsStr;

@@ -33,7 +33,13 @@ fn bad_usage_is_status_2() {
 fn help_names_every_command() {
     let output = sgub(["help"]).output().unwrap();
     let text = String::from_utf8(output.stdout).unwrap();
-    for command in ["check FILE...", "explain [--all] FILE", "help", "--version"] {
+    for command in [
+        "check FILE...",
+        "explain [--all] FILE",
+        "repack MASTER RESULT",
+        "help",
+        "--version",
+    ] {
         assert!(text.contains(&format!("  sgub {command} ")), "{command}");
     }
     assert_eq!(output.status.code(), Some(0));
