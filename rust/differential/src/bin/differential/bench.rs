@@ -9,7 +9,7 @@ use std::io::Write;
 use std::time::{Duration, Instant};
 
 /// Bytes of a file.
-const BYTES: usize = 10_000_000;
+pub const BYTES: usize = 10_000_000;
 
 /// Runs of each; the best counts.
 const REPEATS: u32 = 25;
@@ -55,13 +55,13 @@ fn best(file: &[u8]) -> Result<[Duration; 2], String> {
 }
 
 /// What a call gives, and how long it took; what it gives is dropped outside of that time.
-fn timed<T>(call: impl FnOnce() -> T) -> (Duration, T) {
+pub fn timed<T>(call: impl FnOnce() -> T) -> (Duration, T) {
     let start = Instant::now();
     let result = black_box(call());
     (start.elapsed(), result)
 }
 
-fn name(shape: Large) -> &'static str {
+pub fn name(shape: Large) -> &'static str {
     match shape {
         Large::V1Records => "version 1, records",
         Large::V1EmptyFrames => "version 1, empty frames",

@@ -2,7 +2,9 @@
 #![forbid(unsafe_code)]
 
 mod bench;
+mod bench_repack;
 mod commands;
+mod repacks;
 mod selftest;
 mod verdicts;
 
@@ -19,7 +21,8 @@ const USAGE: &str = "usage: differential verdict FILE...
        differential examples DIRECTORY
        differential vectors DIRECTORY COUNT
        differential verdicts COUNT [SEED]
-       differential bench
+       differential repacks COUNT [SEED]
+       differential bench [repack]
        differential selftest [COUNT]
        differential speed [COUNT]";
 
@@ -57,7 +60,10 @@ fn run(arguments: &[&str], out: &mut impl Write) -> Answer {
         ["vectors", directory, count] => commands::write_vectors(directory, count.parse()?, out),
         ["verdicts", count] => verdicts::verdicts(count.parse()?, 1, out),
         ["verdicts", count, seed] => verdicts::verdicts(count.parse()?, seed.parse()?, out),
+        ["repacks", count] => repacks::repacks(count.parse()?, 1, out),
+        ["repacks", count, seed] => repacks::repacks(count.parse()?, seed.parse()?, out),
         ["bench"] => bench::bench(out),
+        ["bench", "repack"] => bench_repack::bench(out),
         ["selftest"] => selftest::selftest(1000, out),
         ["selftest", count] => selftest::selftest(count.parse()?, out),
         ["speed"] => selftest::speed(1_000_000, out),
