@@ -1,4 +1,4 @@
-/* The SGUB library: the verdict on a stream file, its cards and its pools, and the player.
+/* The SGUB library: the verdict on a stream file, its cards and its pools, the player, and repacking.
  *
  * Every function takes any bytes, ends, and keeps no pointer. A file is a pointer and a length; a file of length 0 may have any
  * pointer but NULL. What the numbers mean is in the format sheet's list of refusals. */
@@ -145,6 +145,18 @@ struct sgub_vsync {
  * 0 may have any pointer but NULL. Player, file and run do not overlap. */
 struct sgub_vsync sgub_advance_vsync(struct sgub_player *player, const uint8_t *file, size_t length, struct sgub_write *run,
                                      size_t count);
+
+/* The answer of repacking. */
+struct sgub_repacked {
+    uint32_t number; /* 0: written; else the number of the first refusal, 1 to 24 */
+    uint64_t place;  /* the place of the refusal */
+    uint64_t size;   /* the length of the result; 0 for a refusal */
+};
+
+/* Repacks a master, which is a file of version 1, as a file of version 2 into a buffer of room bytes. The result stands at the
+ * buffer's start, and the bytes behind it stay as they were; a refusal writes nothing. 0xE00000 bytes are room for every result. The
+ * buffer may not overlap the file; a buffer of 0 bytes may have any pointer but NULL. */
+struct sgub_repacked sgub_repack(const uint8_t *file, size_t length, uint8_t *buffer, size_t room);
 
 #ifdef __cplusplus
 }

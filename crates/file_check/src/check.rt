@@ -1,5 +1,6 @@
 // The whole file: the rules 1 to 20.
 use crate::layout::check_layout;
+use cards::parse_v4_cards;
 use format::CardTable;
 use format::Header;
 use format::Refusal;
@@ -9,7 +10,6 @@ use header::read_header;
 use parts::PartsRead;
 use parts::check_parts;
 use state::no_cards;
-use cards::parse_v4_cards;
 ghost use mathlib.Core.Path.{_≡_};
 ghost use Rattle.format.specs.Checked.{ok};
 ghost use Rattle.format.specs.Header.{headerFrom};

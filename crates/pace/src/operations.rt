@@ -56,7 +56,11 @@ pub fn pace(
     let mut left = operations_left(progress);
     while 0 < left {
         if free == 0 {
-            return answer(false, 0, placed(progress, cursor, operations, writes, waves));
+            return answer(
+                false,
+                0,
+                placed(progress, cursor, operations, writes, waves),
+            );
         }
         let started = start(file, state, limit, cursor, writes, waves);
         if started.refused {

@@ -1,5 +1,6 @@
 // The static library's surface: include/sgub.h declares these functions for C, rust/sgub for Rust.
 mod play;
+mod repack;
 
 use file_check::FileAnswer;
 use file_check::PoolFound;
@@ -10,6 +11,8 @@ use format::Pool;
 pub use play::SgubStarted;
 pub use play::sgub_advance_vsync;
 pub use play::sgub_start;
+pub use repack::SgubRepacked;
+pub use repack::sgub_repack;
 ghost use mathlib.Core.Path.{_≡_};
 ghost use Rattle.format.specs.Pool.{poolAt};
 ghost use Rattle.file_check.specs.Answer.{recorded};

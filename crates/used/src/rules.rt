@@ -1,9 +1,9 @@
 // The rules 7, 9 and 11 for the card and the pool that an operation uses.
+use cards::one_card_wrong;
 use format::CardTable;
 use format::Header;
 use format::Operation;
 use format::Target;
-use cards::one_card_wrong;
 use pools::read_pool;
 ghost use mathlib.Core.Path.{_≡_};
 ghost use Rattle.format.specs.Card.{cardsOf};

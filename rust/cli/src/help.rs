@@ -4,7 +4,7 @@ use crate::status::{Failure, Status};
 use std::io::Write;
 
 const HELP: &str = "\
-sgub checks and plays SGUB music streams.
+sgub checks, plays and repacks SGUB music streams.
 
   sgub check FILE...         print a line for each file:
                                accepted VERSION FRAMES OPENING
@@ -18,13 +18,18 @@ sgub checks and plays SGUB music streams.
        --vsyncs N            play N vsyncs instead
        --run N               lend each call N write records (default 4096)
        --summary             print only how many writes each vsync has, by target
+  sgub repack MASTER RESULT  repack a file of version 1 as one of version 2 and print
+                               repacked BYTES
+                               refused NUMBER PLACE
+                             RESULT is replaced only when the new one is whole
   sgub help                  print this text
   sgub --version             print the version of this command
 
 FILE - is standard input. Behind -- every argument is a file.
 
 Exit status: 0 every file is accepted, 1 a file is refused, 2 could not run: a file that
-cannot be read (the others are still checked) or a command that is not understood.
+cannot be read (the others are still checked) or written, or a command that is not
+understood.
 ";
 
 /// Prints the commands.

@@ -6,6 +6,8 @@ mod explain;
 mod help;
 mod input;
 mod play;
+mod output;
+mod repack;
 mod status;
 
 use status::{Failure, Status};
@@ -32,6 +34,7 @@ fn run(arguments: &[OsString], out: &mut impl Write) -> Result<Status, Failure> 
         Some("check") => check::run(arguments, out),
         Some("explain") => explain::run(arguments, out),
         Some("play") => play::run(arguments, out),
+        Some("repack") => repack::run(arguments, out),
         Some("help" | "--help" | "-h") => help::help(out),
         Some("version" | "--version" | "-V") => help::version(out),
         _ => Err(Failure::usage(format!("no command {}", command.display()))),

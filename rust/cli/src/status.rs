@@ -7,11 +7,11 @@ use std::process::ExitCode;
 /// What a run says by its exit status. Of several files the worst counts, so the order matters.
 #[derive(Clone, Copy, Debug, PartialEq, Eq, PartialOrd, Ord)]
 pub enum Status {
-    /// Every file is accepted.
+    /// Every file is accepted, or the result is written.
     Accepted = 0,
     /// A file is refused.
     Refused = 1,
-    /// A file could not be read, or the command could not be understood.
+    /// A file could not be read or written, or the command could not be understood.
     CouldNotRun = 2,
 }
 

@@ -177,5 +177,7 @@ pub fn advance_vsync(player: &mut Player, file: &[u8], run: &mut [WriteRecord]) 
     }
 }
 
+pub mod repack;
+
 #[cfg(test)]
 mod header;

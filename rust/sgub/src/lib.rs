@@ -1,4 +1,4 @@
-//! The proved SGUB library for Rust: the verdict on a stream file, its cards and its pools, and its player.
+//! The proved SGUB library for Rust: the verdict on a stream file, its cards and its pools, its player, and repacking.
 //!
 //! The library is `crates/sgub` of this repository, and its contracts say what each function answers. This package only
 //! declares its C functions again and makes them safe to call; it decides nothing about a file. Every function takes any
@@ -9,8 +9,10 @@
 #[allow(unsafe_code)]
 mod ffi;
 mod player;
+mod repack;
 
 pub use player::{OtherFile, StreamPlayer, Vsync, WriteRecord};
+pub use repack::{LONGEST_RESULT, repack, repack_to_vec};
 
 /// The verdict on a file.
 #[derive(Clone, Copy, Debug, PartialEq, Eq)]
@@ -24,7 +26,7 @@ pub enum Verdict {
 /// Why a file is refused, as the format sheet's list has it.
 #[derive(Clone, Copy, Debug, PartialEq, Eq)]
 pub struct Refusal {
-    /// The number of the refusal, 1 to 20.
+    /// The number of the refusal: 1 to 20, and for repacking up to 24.
     pub number: u32,
     /// The place that the sheet gives for this number; at most the file's length.
     pub place: usize,

@@ -4,6 +4,7 @@ mod check;
 mod explain;
 mod launcher;
 mod play;
+mod repack;
 mod usage;
 
 use std::ffi::OsStr;

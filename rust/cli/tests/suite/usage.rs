@@ -49,6 +49,7 @@ fn help_names_every_command() {
         "check FILE...",
         "explain [--all] FILE",
         "play [OPTION]... FILE",
+        "repack MASTER RESULT",
         "help",
         "--version",
     ] {

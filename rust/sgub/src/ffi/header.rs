@@ -1,5 +1,6 @@
 //! Holds the declarations of this module against `include/sgub.h`, by a C compiler.
 
+use super::repack::Repacked;
 use super::{
     Card, CardTable, Header, Player, Pool, PoolEntry, Started, Verdict, Vsync, WaveSource,
 };
@@ -34,7 +35,7 @@ fn size_of_field<S, F>(_: fn(&S) -> &F) -> usize {
     size_of::<F>()
 }
 
-fn layouts() -> [Layout; 11] {
+fn layouts() -> [Layout; 12] {
     [
         layout!(
             "sgub_verdict",
@@ -136,6 +137,14 @@ fn layouts() -> [Layout; 11] {
                 complete,
             }
         ),
+        layout!(
+            "sgub_repacked",
+            Repacked {
+                number,
+                place,
+                size,
+            }
+        ),
     ]
 }
 
@@ -168,6 +177,7 @@ struct sgub_pool_entry sgub_pool_entry(
 struct sgub_started sgub_start(const unsigned char *, unsigned long);
 struct sgub_vsync sgub_advance_vsync(
     struct sgub_player *, const unsigned char *, unsigned long, struct sgub_write *, unsigned long);
+struct sgub_repacked sgub_repack(const unsigned char *, unsigned long, unsigned char *, unsigned long);
 ";
 
 /// P3 of the format sheet, and P3 with another version.
@@ -177,6 +187,13 @@ int main(void) {
     struct sgub_verdict verdict = sgub_check(file, sizeof file);
     if (verdict.number != 0 || verdict.version != 1 || verdict.total_size != 22)
         return 1;
+    uint8_t buffer[43] = {[42] = 0xA5};
+    struct sgub_repacked repacked = sgub_repack(file, sizeof file, buffer, 41);
+    if (repacked.number != 24 || repacked.size != 0 || buffer[0] != 0)
+        return 4;
+    repacked = sgub_repack(file, sizeof file, buffer, sizeof buffer);
+    if (repacked.number != 0 || repacked.size != 42 || buffer[4] != 2 || buffer[42] != 0xA5)
+        return 5;
     file[4] = 5;
     verdict = sgub_check(file, sizeof file);
     if (verdict.number != 3 || verdict.place != 0 || verdict.version != 0)

@@ -3,8 +3,10 @@
 
 mod bench;
 mod bench_play;
+mod bench_repack;
 mod commands;
 mod plays;
+mod repacks;
 mod selftest;
 mod verdicts;
 mod work;
@@ -23,7 +25,8 @@ const USAGE: &str = "usage: differential verdict FILE...
        differential vectors DIRECTORY COUNT
        differential verdicts COUNT [SEED]
        differential plays COUNT [SEED]
-       differential bench [play]
+       differential repacks COUNT [SEED]
+       differential bench [play | repack]
        differential selftest [COUNT]
        differential speed [COUNT]";
 
@@ -65,6 +68,9 @@ fn run(arguments: &[&str], out: &mut impl Write) -> Answer {
         ["plays", count, seed] => plays::plays(count.parse()?, seed.parse()?, out),
         ["bench"] => bench::bench(out),
         ["bench", "play"] => bench_play::bench(out),
+        ["repacks", count] => repacks::repacks(count.parse()?, 1, out),
+        ["repacks", count, seed] => repacks::repacks(count.parse()?, seed.parse()?, out),
+        ["bench", "repack"] => bench_repack::bench(out),
         ["selftest"] => selftest::selftest(1000, out),
         ["selftest", count] => selftest::selftest(count.parse()?, out),
         ["speed"] => selftest::speed(1_000_000, out),
