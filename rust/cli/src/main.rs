@@ -5,8 +5,8 @@ mod check;
 mod explain;
 mod help;
 mod input;
-mod play;
 mod output;
+mod play;
 mod repack;
 mod status;
 
