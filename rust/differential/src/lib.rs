@@ -29,6 +29,7 @@ pub mod model;
 pub mod mutate;
 pub mod oracle;
 pub mod playing;
+pub mod playing_vectors;
 pub mod repacking;
 pub mod rng;
 pub mod shapes;

@@ -5,6 +5,7 @@ mod bench;
 mod bench_play;
 mod bench_repack;
 mod commands;
+mod play_vectors;
 mod plays;
 mod repacks;
 mod selftest;
@@ -23,6 +24,7 @@ const USAGE: &str = "usage: differential verdict FILE...
        differential large BYTES DIRECTORY
        differential examples DIRECTORY
        differential vectors DIRECTORY COUNT
+       differential play_vectors DIRECTORY COUNT
        differential verdicts COUNT [SEED]
        differential plays COUNT [SEED]
        differential repacks COUNT [SEED]
@@ -62,6 +64,9 @@ fn run(arguments: &[&str], out: &mut impl Write) -> Answer {
         ["large", bytes, directory] => commands::large_files(bytes.parse()?, directory),
         ["examples", directory] => commands::write_examples(directory),
         ["vectors", directory, count] => commands::write_vectors(directory, count.parse()?, out),
+        ["play_vectors", directory, count] => {
+            play_vectors::write_play_vectors(directory, count.parse()?, out)
+        }
         ["verdicts", count] => verdicts::verdicts(count.parse()?, 1, out),
         ["verdicts", count, seed] => verdicts::verdicts(count.parse()?, seed.parse()?, out),
         ["plays", count] => plays::plays(count.parse()?, 1, out),
