@@ -1,6 +1,5 @@
 -- `play_vectors::main` is safe and ends. Assumes nothing.
 use borrow.Author.Needs.{needs}
-use native.Mathlib.Omega.{arith}
 use Rattle.play_vectors.proofs.main.Statement.{statement}
 use Rattle.play_vectors.proofs.main.Tie as tie
 

@@ -1,6 +1,5 @@
 -- `play_vectors::replay_calls` is safe and ends. Assumes nothing.
 use borrow.Author.Needs.{needs}
-use native.Mathlib.Omega.{arith}
 use mathlib.Core.Path.{_≡_}
 use lib.ListN.{length}
 use Rattle.play_vectors.proofs.replay_calls.Statement.{statement}

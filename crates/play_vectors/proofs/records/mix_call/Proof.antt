@@ -1,6 +1,5 @@
 -- `play_vectors::records::mix_call` is safe and ends. Assumes nothing.
 use borrow.Author.Needs.{needs}
-use native.Mathlib.Omega.{arith}
 use Rattle.play_vectors.proofs.records.mix_call.Statement.{statement}
 use Rattle.play_vectors.proofs.records.mix_call.Tie as tie
 

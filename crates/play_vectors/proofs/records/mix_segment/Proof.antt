@@ -1,6 +1,5 @@
 -- `play_vectors::records::mix_segment` is safe and ends. Assumes nothing.
 use borrow.Author.Needs.{needs}
-use native.Mathlib.Omega.{arith}
 use Prim.Native.Nat.{_-_}
 use Rattle.play_vectors.proofs.records.mix_segment.Statement.{statement}
 use Rattle.play_vectors.proofs.records.mix_segment.Tie as tie
