@@ -20,6 +20,7 @@ const USAGE: &str = "usage: differential verdict FILE...
        differential large BYTES DIRECTORY
        differential examples DIRECTORY
        differential vectors DIRECTORY COUNT
+       differential repack-vectors DIRECTORY COUNT
        differential verdicts COUNT [SEED]
        differential repacks COUNT [SEED]
        differential bench [repack]
@@ -58,6 +59,9 @@ fn run(arguments: &[&str], out: &mut impl Write) -> Answer {
         ["large", bytes, directory] => commands::large_files(bytes.parse()?, directory),
         ["examples", directory] => commands::write_examples(directory),
         ["vectors", directory, count] => commands::write_vectors(directory, count.parse()?, out),
+        ["repack-vectors", directory, count] => {
+            repacks::write_vectors(directory, count.parse()?, out)
+        }
         ["verdicts", count] => verdicts::verdicts(count.parse()?, 1, out),
         ["verdicts", count, seed] => verdicts::verdicts(count.parse()?, seed.parse()?, out),
         ["repacks", count] => repacks::repacks(count.parse()?, 1, out),

@@ -3,10 +3,12 @@
 use crate::Answer;
 use differential::generate::{Choice, Generator};
 use differential::masters::{self, Masters};
+use differential::repack_vectors;
 use differential::repacking::{self, Outcome};
 use differential::rng::Rng;
 use std::io::{self, Write};
 use std::num::NonZero;
+use std::path::Path;
 use std::sync::Mutex;
 use std::time::Instant;
 use std::{fs, panic, thread};
@@ -52,6 +54,20 @@ pub fn repacks(count: u64, seed: u64, out: &mut impl Write) -> Answer {
         start.elapsed().as_secs_f64()
     )?;
     Ok(counts.refused[20..23].iter().all(|count| *count > 0))
+}
+
+/// Writes vectors into the file `repacks.bin`.
+pub fn write_vectors(directory: &str, count: usize, out: &mut impl Write) -> Answer {
+    let vectors = repack_vectors::choose(count, 1)?;
+    let bytes = repack_vectors::to_bytes(&vectors);
+    fs::create_dir_all(directory)?;
+    fs::write(Path::new(directory).join("repacks.bin"), &bytes)?;
+    let mut numbers: Vec<u32> = vectors.iter().map(|vector| vector.refusal[0]).collect();
+    numbers.sort_unstable();
+    numbers.dedup();
+    let (count, size) = (vectors.len(), bytes.len());
+    writeln!(out, "{count} vectors, {size} bytes, numbers {numbers:?}")?;
+    Ok(true)
 }
 
 /// How often each outcome came.
