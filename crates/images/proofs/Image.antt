@@ -15,8 +15,8 @@ use Rattle.format.specs.Bytes.{byte, sameBytes}
 use Rattle.format.specs.Compare.{played}
 use Rattle.format.specs.Writes.{write, upward}
 use Rattle.format.proofs.Same.{played-append}
-use Rattle.segments.specs.declared.Segment.{Segment}
-use Rattle.segments.specs.Segments.{spread, stepOf, segmentWrites, segmentAt, operationWrites, recordWrite, recordWrites}
+use Rattle.spans.specs.declared.Segment.{Segment}
+use Rattle.spans.specs.Segments.{spread, stepOf, segmentWrites, segmentAt, operationWrites, recordWrite, recordWrites}
 use Rattle.images.specs.Image.{least}
 
 -- the number before one that is not 0
@@ -60,13 +60,6 @@ fill-rest n v (b ∷ rest) =
 
 pub fill-all : (memory : List ℕ) (v : ℕ) → played memory (upward 2 0 (replicate (length memory) v)) ≡ replicate (length memory) v
 fill-all memory v = fill-rest 0 v memory ∙ ap (λ (k : ℕ). replicate k v) (zero-add (length memory))
-
--- a segment of one value
-pub spread-fill : (file : List ℕ) (address source count : ℕ) → spread file 2 address source 0 count ≡ upward 2 address (replicate count (byte file source))
-unfolding spread upward
-spread-fill file address source zero = refl
-spread-fill file address source (suc count) =
-    rw add-zero (ap (λ (l : List WriteRecord). write 2 address (byte file source) ∷ l) (spread-fill file (address + 1) source count))
 
 -- BYTES OF A FILE
 

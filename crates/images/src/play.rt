@@ -4,14 +4,14 @@ use crate::store::copy;
 use crate::store::fill;
 use big_endian::byte_at;
 use big_endian::read_u24;
-use segments::Segment;
-use segments::segment_at;
+use spans::Segment;
+use spans::segment_at;
 ghost use mathlib.Core.Path.{_≡_};
 ghost use mathlib.Core.List.{[], _∷_};
 ghost use Prim.Native.Nat.{_≤_};
 ghost use lib.ListN.{length, replicate};
 ghost use Rattle.format.specs.Compare.{played};
-ghost use Rattle.segments.specs.Segments.{segmentWrites, operationWrites, recordWrite, recordWrites};
+ghost use Rattle.spans.specs.Segments.{segmentWrites, operationWrites, recordWrite, recordWrites};
 ghost use Rattle.images.specs.Image.{least};
 
 // The smaller of two numbers.

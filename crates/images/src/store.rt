@@ -5,7 +5,7 @@ ghost use Prim.Native.Nat.{_+_, _≤_};
 ghost use lib.ListN.{length, replicate};
 ghost use Rattle.format.specs.Compare.{played};
 ghost use Rattle.format.specs.Writes.{upward};
-ghost use Rattle.segments.specs.Segments.{spread};
+ghost use Rattle.spans.specs.Segments.{spread};
 
 // One value, so often.
 pub fn fill(image: &mut [u8], address: usize, count: usize, value: u8)

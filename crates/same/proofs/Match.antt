@@ -10,12 +10,12 @@ use Rattle.format.specs.declared.operation.WriteRecord.{WriteRecord}
 use Rattle.format.specs.Bytes.{byte, be}
 use Rattle.format.specs.Compare.{sameWrite, sameWrites, coreWrites}
 use Rattle.format.specs.Writes.{write}
-use Rattle.segments.specs.declared.Segment.{Segment}
+use Rattle.spans.specs.declared.Segment.{Segment}
 use Rattle.same.specs.declared.run.Run.{Run}
 use Rattle.same.specs.declared.run.Run.the-variants as run
 use Rattle.same.specs.declared.part.PartMatch.{PartMatch}
 use Rattle.same.specs.declared.part.PartMatch.the-variants as part
-use Rattle.segments.specs.Segments.{stepOf, spread, segmentAt, segmentWrites, operationWrites, operationsStop, recordWrite, recordWrites}
+use Rattle.spans.specs.Segments.{stepOf, spread, segmentAt, segmentWrites, operationWrites, operationsStop, recordWrite, recordWrites}
 use Rattle.same.specs.Match.{keeps, kept, matched, matchedSegment, matchedOperation, samePart, matchedPart, behind, sameFramesAt}
 
 -- the number before one that is not 0

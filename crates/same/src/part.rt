@@ -3,13 +3,13 @@ use crate::run::Run;
 use crate::run::is_kept;
 use crate::run::same_operation;
 use big_endian::byte_at;
-use segments::segment_at;
+use spans::segment_at;
 ghost use mathlib.Core.Path.{_≡_};
 ghost use mathlib.Core.Bool.{false};
 ghost use mathlib.Core.List.{[]};
 ghost use Prim.Native.Nat.{_≤_};
 ghost use Rattle.format.specs.Compare.{sameWrites};
-ghost use Rattle.segments.specs.Segments.{recordWrites};
+ghost use Rattle.spans.specs.Segments.{recordWrites};
 ghost use Rattle.same.specs.Match.{kept, samePart, matchedPart};
 
 // The parts agree, and the other file's ends at a place; or they differ.

@@ -1,13 +1,13 @@
 // A master's records against the writes of one operation.
 use big_endian::byte_at;
 use big_endian::read_u24;
-use segments::Segment;
-use segments::step_of;
+use spans::Segment;
+use spans::step_of;
 ghost use mathlib.Core.Path.{_≡_};
 ghost use Prim.Native.Nat.{_≤_};
 ghost use Rattle.format.specs.Compare.{sameWrite};
 ghost use Rattle.format.specs.Writes.{write};
-ghost use Rattle.segments.specs.Segments.{recordWrite};
+ghost use Rattle.spans.specs.Segments.{recordWrite};
 ghost use Rattle.same.specs.Match.{keeps, matchedSegment, matchedOperation};
 
 // The records behind those that agree, or that one differs.

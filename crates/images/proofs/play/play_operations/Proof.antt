@@ -5,9 +5,9 @@ use Prim.Native.Nat.{_+_, _-_, _*_, _≤_}
 use mathlib.Core.Path.{_≡_, refl, sym, ap, _∙_}
 use lib.ListN.{length}
 use Rattle.format.specs.Compare.{played}
-use Rattle.segments.specs.declared.Segment.{Segment}
-use Rattle.segments.specs.Segments.{operationWrites}
-use Rattle.segments.proofs.Near.{next-near}
+use Rattle.spans.specs.declared.Segment.{Segment}
+use Rattle.spans.specs.Segments.{operationWrites}
+use Rattle.spans.proofs.Near.{next-near}
 use Rattle.images.proofs.Image.{operations-step, operations-end, played-length}
 use Rattle.images.proofs.play.play_operations.Statement.{statement}
 use Rattle.images.proofs.play.play_operations.Tie as tie

@@ -5,7 +5,7 @@ use Prim.Native.Nat.{_+_, _-_, _*_, _≤_}
 use mathlib.Core.Path.{_≡_, refl, sym, _∙_}
 use lib.ListN.{length}
 use Rattle.format.specs.Compare.{played}
-use Rattle.segments.specs.Segments.{recordWrites}
+use Rattle.spans.specs.Segments.{recordWrites}
 use Rattle.images.proofs.Image.{records-step, records-end, played-length}
 use Rattle.images.proofs.play.play_records.Statement.{statement}
 use Rattle.images.proofs.play.play_records.Tie as tie

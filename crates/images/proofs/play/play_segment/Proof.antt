@@ -4,9 +4,10 @@ use native.Mathlib.Omega.{arith}
 use Prim.Native.Nat.{_-_}
 use mathlib.Core.Path.{sym, _∙_}
 use borrow.Author.Tests.{ne-eqb}
-use Rattle.segments.specs.Segments.{stepOf}
+use Rattle.spans.specs.Segments.{stepOf}
 use Rattle.images.specs.Image.{least}
-use Rattle.images.proofs.Image.{spread-fill, copy-other, copy-past, copy-least}
+use Rattle.spans.proofs.Streams.{spread-fill}
+use Rattle.images.proofs.Image.{copy-other, copy-past, copy-least}
 use Rattle.images.proofs.play.play_segment.Statement.{statement}
 use Rattle.images.proofs.play.play_segment.Tie as tie
 
@@ -61,7 +62,7 @@ returns-4 c =
     let n = t .before in
     let o = n .before .before in
     let a = o .before .before .before .before .before .before .args in
-    c .before .before .fill .ensures ∙ rw (c .before .before .before .byte-at .ensures, ← (spread-fill (a .file .now) (a .segment .address) (a .segment .source) (n .least .result)), n .least .ensures .0, o .before .before .if1 .left, t .if3 .left) (copy-least (a .file .now) (a .image .now) (a .segment .address) (a .segment .source) 0 (a .segment .count) (omega arith))
+    c .before .before .fill .ensures ∙ rw (c .before .before .before .byte-at .ensures, ← (spread-fill (a .file .now) 2 (a .segment .address) (a .segment .source) (n .least .result)), n .least .ensures .0, o .before .before .if1 .left, t .if3 .left) (copy-least (a .file .now) (a .image .now) (a .segment .address) (a .segment .source) 0 (a .segment .count) (omega arith))
 
 pub play-segment-spec : {M : Type 1} → statement M
 play-segment-spec =

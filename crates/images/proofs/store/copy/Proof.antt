@@ -5,7 +5,7 @@ use Prim.Native.Nat.{_+_, _-_, _≤_}
 use mathlib.Core.Path.{_≡_, refl, sym, _∙_}
 use lib.ListN.{length, length-set}
 use Rattle.format.specs.Compare.{played}
-use Rattle.segments.specs.Segments.{spread}
+use Rattle.spans.specs.Segments.{spread}
 use Rattle.images.proofs.Image.{copy-step, copy-end}
 use Rattle.images.proofs.store.copy.Statement.{statement}
 use Rattle.images.proofs.store.copy.Tie as tie

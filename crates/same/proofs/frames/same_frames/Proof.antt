@@ -5,7 +5,7 @@ use Prim.Native.Nat.{_+_, _-_, _*_, _≤_}
 use mathlib.Core.Bool.{true}
 use mathlib.Core.Path.{_≡_, refl, sym, _∙_}
 use Rattle.same.specs.Match.{sameFramesAt}
-use Rattle.segments.proofs.Near.{stop-near}
+use Rattle.spans.proofs.Near.{stop-near}
 use Rattle.same.proofs.Match.{part-same, part-differs, frames-step, frames-end}
 use Rattle.same.proofs.frames.same_frames.Statement.{statement}
 use Rattle.same.proofs.frames.same_frames.Tie as tie

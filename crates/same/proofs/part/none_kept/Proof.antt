@@ -5,7 +5,7 @@ use mathlib.Core.List.{[]}
 use mathlib.Core.Path.{_≡_, refl}
 use native.Mathlib.Omega.{arith}
 use Rattle.format.specs.Compare.{sameWrites}
-use Rattle.segments.specs.Segments.{recordWrites}
+use Rattle.spans.specs.Segments.{recordWrites}
 use Rattle.same.specs.Match.{kept}
 use Rattle.same.proofs.Match.{none-step, none-end}
 use Rattle.same.proofs.part.none_kept.Statement.{statement}

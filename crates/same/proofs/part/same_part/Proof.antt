@@ -3,9 +3,9 @@ use borrow.Author.Needs.{needs}
 use native.Mathlib.Omega.{arith}
 use Prim.Native.Nat.{_+_, _-_, _*_, _≤_}
 use mathlib.Core.Path.{_≡_, refl, sym, ap, _∙_}
-use Rattle.segments.specs.declared.Segment.{Segment}
+use Rattle.spans.specs.declared.Segment.{Segment}
 use Rattle.same.specs.Match.{matchedPart}
-use Rattle.segments.proofs.Near.{next-near}
+use Rattle.spans.proofs.Near.{next-near}
 use Rattle.same.proofs.Match.{operation-place, part-step, part-end}
 use Rattle.same.proofs.part.same_part.Statement.{statement}
 use Rattle.same.proofs.part.same_part.Tie as tie

@@ -6,7 +6,7 @@ use mathlib.Core.Bool.{true}
 use mathlib.Core.Path.{_≡_, refl, sym, ap, _∙_}
 use Rattle.format.specs.Compare.{sameWrite}
 use Rattle.format.specs.Writes.{write}
-use Rattle.segments.specs.Segments.{stepOf, recordWrite}
+use Rattle.spans.specs.Segments.{stepOf, recordWrite}
 use Rattle.same.specs.Match.{kept, keeps, matched, matchedSegment}
 use Rattle.same.proofs.Match.{matched-end, matched-short, matched-next, matched-differs, matched-skip}
 use Rattle.same.proofs.run.same_segment.Statement.{statement}

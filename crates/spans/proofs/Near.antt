@@ -5,8 +5,8 @@ use mathlib.Core.List.{List}
 use native.Mathlib.Omega.{arith}
 use lib.Dec.{eqb}
 use Rattle.format.specs.Bytes.{byte}
-use Rattle.segments.specs.declared.Segment.{Segment}
-use Rattle.segments.specs.Segments.{segmentAt, operationsStop}
+use Rattle.spans.specs.declared.Segment.{Segment}
+use Rattle.spans.specs.Segments.{segmentAt, operationsStop}
 
 -- the place behind an operation is near
 pub next-near : (file : List ℕ) (directory at : ℕ) → segmentAt file directory at .next ≤ at + 15

@@ -8,7 +8,7 @@ use Rattle.format.specs.declared.operation.WriteRecord.{WriteRecord}
 use Rattle.format.specs.Bytes.{byte, be}
 use Rattle.format.specs.Pool.{poolAt}
 use Rattle.format.specs.Writes.{write}
-use Rattle.segments.specs.declared.Segment.{Segment}
+use Rattle.spans.specs.declared.Segment.{Segment}
 
 -- so many writes upward from an address, with the bytes of a file from a place on, at a distance of 0 or 1
 unfoldable pub spread : List ℕ → (target address source step count : ℕ) → List WriteRecord

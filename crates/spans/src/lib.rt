@@ -6,7 +6,7 @@ use big_endian::read_u32;
 use tables::read_pool;
 ghost use mathlib.Core.Path.{_≡_};
 ghost use Prim.Native.Nat.{_≤_};
-ghost use Rattle.segments.specs.Segments.{stepOf, copySource, segmentAt};
+ghost use Rattle.spans.specs.Segments.{stepOf, copySource, segmentAt};
 
 // `count` writes to a target, upward from an address, and the place behind the operation. The first value stands at `source`; where
 // the values are copied each next one stands behind it, and else it is the value of all.

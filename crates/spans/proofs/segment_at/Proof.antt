@@ -1,11 +1,11 @@
--- `segments::segment_at` meets its contract. Assumes nothing.
+-- `spans::segment_at` meets its contract. Assumes nothing.
 use borrow.Author.Needs.{needs}
 use native.Mathlib.Omega.{arith}
 use Prim.Native.Nat.{_-_}
 use borrow.Author.Tests.{eq-eqb, ne-eqb}
-use Rattle.segments.specs.Segments.{segmentAt}
-use Rattle.segments.proofs.segment_at.Statement.{statement}
-use Rattle.segments.proofs.segment_at.Tie as tie
+use Rattle.spans.specs.Segments.{segmentAt}
+use Rattle.spans.proofs.segment_at.Statement.{statement}
+use Rattle.spans.proofs.segment_at.Tie as tie
 
 add-byte-at : tie.Need-add-byte-at
 add-byte-at c = search needs

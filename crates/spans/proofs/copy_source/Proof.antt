@@ -1,10 +1,10 @@
--- `segments::copy_source` meets its contract. Assumes nothing.
+-- `spans::copy_source` meets its contract. Assumes nothing.
 use borrow.Author.Needs.{needs}
 use native.Mathlib.Omega.{arith}
 use Prim.Native.Nat.{_-_}
 use Prim.Native.Nat.{_-_}
-use Rattle.segments.proofs.copy_source.Statement.{statement}
-use Rattle.segments.proofs.copy_source.Tie as tie
+use Rattle.spans.proofs.copy_source.Statement.{statement}
+use Rattle.spans.proofs.copy_source.Tie as tie
 
 add-read-u16 : tie.Need-add-read-u16
 add-read-u16 c = search needs
