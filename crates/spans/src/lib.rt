@@ -3,7 +3,7 @@ use big_endian::byte_at;
 use big_endian::read_u16;
 use big_endian::read_u24;
 use big_endian::read_u32;
-use tables::read_pool;
+use pools::read_pool;
 ghost use mathlib.Core.Path.{_≡_};
 ghost use Prim.Native.Nat.{_≤_};
 ghost use Rattle.spans.specs.Segments.{stepOf, copySource, segmentAt};
