@@ -1,7 +1,7 @@
--- `plain::state::part_of` meets its contract. Assumes nothing.
+-- `plain::value::part_of` meets its contract. Assumes nothing.
 use borrow.Author.Tests.{eq-eqb, ne-eqb}
-use Rattle.plain.proofs.state.part_of.Statement.{statement}
-use Rattle.plain.proofs.state.part_of.Tie as tie
+use Rattle.plain.proofs.value.part_of.Statement.{statement}
+use Rattle.plain.proofs.value.part_of.Tie as tie
 
 returns : tie.Need-returns
 returns c = simp (eq-eqb _ _ (c .if1 .taken))

@@ -1,7 +1,7 @@
--- `plain::state::player_of` meets its contract. Assumes nothing.
+-- `plain::value::player_of` meets its contract. Assumes nothing.
 use borrow.Author.Needs.{needs}
-use Rattle.plain.proofs.state.player_of.Statement.{statement}
-use Rattle.plain.proofs.state.player_of.Tie as tie
+use Rattle.plain.proofs.value.player_of.Statement.{statement}
+use Rattle.plain.proofs.value.player_of.Tie as tie
 
 part-number-requires : tie.Need-part-number-requires
 part-number-requires c κs = search needs

@@ -1,7 +1,7 @@
--- `plain::state::state_of` meets its contract. Assumes nothing.
+-- `plain::value::state_of` meets its contract. Assumes nothing.
 use borrow.Author.Needs.{needs}
-use Rattle.plain.proofs.state.state_of.Statement.{statement}
-use Rattle.plain.proofs.state.state_of.Tie as tie
+use Rattle.plain.proofs.value.state_of.Statement.{statement}
+use Rattle.plain.proofs.value.state_of.Tie as tie
 
 part-of-requires : tie.Need-part-of-requires
 part-of-requires c κs = search needs
