@@ -52,8 +52,8 @@ use Rattle.plain.specs.declared.value.SgubPlayer.{SgubPlayer}
 use Rattle.plain.specs.State.{stateOf}
 use Rattle.plain.specs.Call.{planFields, toldOf}
 use Rattle.plain.proofs.Calls.{told-is, next-is, run-is}
-use Rattle.plain.proofs.state.SgubPlayer as P
-use Rattle.plain.proofs.state.SgubPlayer.Laws as P′
+use Rattle.plain.proofs.value.SgubPlayer as P
+use Rattle.plain.proofs.value.SgubPlayer.Laws as P′
 use Rattle.plain.proofs.call.SgubPlan as S
 use Rattle.plain.proofs.call.SgubPlan.Laws as S′
 use Rattle.plain.proofs.call.SgubVsync as Y
