@@ -1,9 +1,9 @@
 -- The comparison's rule for two accepted files, by their headers.
-use Prim.Native.Nat.{ℕ, zero, suc, _+_, _*_, _≤_}
+use Prim.Native.Nat.{ℕ, zero, suc, _+_, _*_}
 use mathlib.Core.Path.{_≡_, refl, sym, ap, ap₂, _∙_}
 use mathlib.Core.Bool.{Bool, true, false, _&&_, Bool·beq}
 use mathlib.Core.List.{List, [], _∷_}
-use borrow.Author.Tests.{eq-eqb, ne-eqb, eqb-true, eqb-false}
+use borrow.Author.Tests.{eqb-true, eqb-false}
 use lib.Dec.{eqb}
 use lib.ListN.{length, replicate}
 use Rattle.format.specs.declared.header.Header.{Header}
@@ -20,9 +20,9 @@ use Rattle.format.proofs.Accepted.{Accepted, settingFor}
 use Rattle.format.proofs.Checks.{ok-is}
 use Rattle.format.proofs.Same.{same-count}
 use Rattle.format.proofs.Steps.{frame-step}
-use Rattle.repack.specs.Places.{recordOf, recordsAt, framesAt, behindFrame}
+use Rattle.repack.specs.Places.{recordsAt, framesAt, behindFrame}
 use Rattle.repack.proofs.Master.{IsMaster}
-use Rattle.spans.specs.Segments.{recordWrite, recordWrites, operationWrites, operationsStop}
+use Rattle.spans.specs.Segments.{recordWrite, recordWrites}
 use Rattle.spans.proofs.Streams.{operations-are}
 use Rattle.same.specs.Match.{samePart, sameFramesAt}
 use Rattle.compare.specs.Accepted.{masterOpening, otherOpening, masterDrawn, otherDrawn, framesAgree, agreeBy}
@@ -74,9 +74,6 @@ module _ (other : List ℕ) (header : Header) (s : Stream) (acc : Accepted other
   all-frames master header′ t e =
       ap (λ (fs : List (List Operation)). sameFrames (t .pools) (s .pools) fs (s .frames)) e ∙ go (eqb (header′ .«frame_count») (header .«frame_count»)) refl
     where
-      at : ℕ
-      at = 20 + header′ .«initial_count» * 5
-
       go : (b : Bool) → eqb (header′ .«frame_count») (header .«frame_count») ≡ b
           → sameFrames (t .pools) (s .pools) (framesAt master (header′ .«frame_count») (20 + header′ .«initial_count» * 5)) (s .frames) ≡ (b && sameFramesAt master other (header .«directory_offset») (header′ .«frame_count») (20 + header′ .«initial_count» * 5) (header .«frame_start»))
       go true q =

@@ -3,7 +3,6 @@ use Prim.Native.Nat.{ℕ}
 use mathlib.Core.Bool.{true, false}
 use mathlib.Core.List.{List}
 use Rattle.format.specs.declared.header.Header.{Header}
-use Rattle.format.specs.declared.rule.Refusal.{Refusal}
 use Rattle.format.specs.Checked.{Checked, ok, mapped}
 use Rattle.format.specs.Compare.{Compared, agreed, refusedFile, readVersion}
 use Rattle.format.specs.Header.{headerOf}

@@ -8,7 +8,7 @@ use format::Rule;
 ghost use mathlib.Core.Path.{_≡_};
 ghost use lib.ListN.{length};
 ghost use Rattle.format.specs.Checked.{ok};
-ghost use Rattle.format.specs.Compare.{compared, masterImage, otherImage};
+ghost use Rattle.format.specs.Compare.{agreed, compared, masterImage, otherImage};
 ghost use Rattle.compare.specs.Answer.{comparedOf, versionHeader};
 
 // Whether the files agree, or which one is refused.
@@ -35,6 +35,15 @@ fn too_short() -> Refusal
     }
 }
 
+fn answer(agree: bool) -> Comparison
+    ensures { λ r. ⌜ comparedOf r ≡ agreed agree ⌝ }
+{
+    if agree {
+        return Comparison::Passed;
+    }
+    Comparison::Failed
+}
+
 // The comparison of two files that are accepted and have their versions.
 fn compare_headers(
     master: &[u8],
@@ -54,17 +63,14 @@ fn compare_headers(
     if other_image.len() < size {
         return Comparison::OtherRefused(too_short());
     }
-    if compare_accepted(
+    answer(compare_accepted(
         master,
         header,
         other,
         other_header,
         &mut master_image[..size],
         &mut other_image[..size],
-    ) {
-        return Comparison::Passed;
-    }
-    Comparison::Failed
+    ))
 }
 
 // Compares a master with a file of version 2; the images then hold the memory that each file's opening leaves, pass or fail.

@@ -6,17 +6,16 @@ use mathlib.Core.List.{List, [], _∷_, _++_}
 use native.Mathlib.Nat.{add-zero, zero-add, not-suc-le-zero}
 use native.Mathlib.Numerals.{add-one}
 use native.Mathlib.Omega.{arith}
-use borrow.Author.Tests.{ltb-false, ne-eqb}
+use borrow.Author.Tests.{ltb-false}
 use lib.Dec.{eqb, ltb}
 use lib.ListN.{length, set, replicate, length-set, length-replicate}
 use lib.Seq.{set-out, set-at}
 use Rattle.format.specs.declared.operation.WriteRecord.{WriteRecord}
-use Rattle.format.specs.Bytes.{byte, sameBytes}
+use Rattle.format.specs.Bytes.{byte}
 use Rattle.format.specs.Compare.{played}
 use Rattle.format.specs.Writes.{write, upward}
 use Rattle.format.proofs.Same.{played-append}
-use Rattle.spans.specs.declared.Segment.{Segment}
-use Rattle.spans.specs.Segments.{spread, stepOf, segmentWrites, segmentAt, operationWrites, recordWrite, recordWrites}
+use Rattle.spans.specs.Segments.{spread, segmentWrites, segmentAt, operationWrites, recordWrite, recordWrites}
 use Rattle.images.specs.Image.{least}
 
 -- the number before one that is not 0

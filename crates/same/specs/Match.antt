@@ -1,7 +1,7 @@
 -- A master's records against the other file's operations, as the loops compare them: all writes, or only those to cores.
 use Prim.Native.Nat.{ℕ, zero, suc, _+_, _*_}
 use mathlib.Core.Bool.{Bool, true, false, cond, _&&_, _||_}
-use mathlib.Core.List.{List, [], _∷_}
+use mathlib.Core.List.{List}
 use lib.Dec.{ltb}
 use Rattle.format.specs.declared.operation.WriteRecord.{WriteRecord}
 use Rattle.format.specs.Bytes.{byte, be}
@@ -12,7 +12,7 @@ use Rattle.same.specs.declared.run.Run.{Run}
 use Rattle.same.specs.declared.run.Run.the-variants as run
 use Rattle.same.specs.declared.part.PartMatch.{PartMatch}
 use Rattle.same.specs.declared.part.PartMatch.the-variants as part
-use Rattle.spans.specs.Segments.{stepOf, segmentAt, segmentWrites, operationWrites, operationsStop, recordWrite, recordWrites}
+use Rattle.spans.specs.Segments.{stepOf, operationWrites, operationsStop, recordWrite, recordWrites}
 
 -- whether a write to a target counts
 abbrev pub keeps : (all : Bool) → (target : ℕ) → Bool

@@ -1,9 +1,9 @@
 -- The operations of an accepted file of version 2 make the writes of the segments at their places.
 use Prim.Native.Nat.{ℕ, zero, suc, _+_, _*_, _-_, _≤_, _<_}
 use mathlib.Core.Path.{_≡_, refl, sym, ap, ap₂, subst, _∙_}
-use mathlib.Core.Bool.{Bool, true, false, cond}
+use mathlib.Core.Bool.{cond}
 use mathlib.Core.List.{List, [], _∷_, _++_}
-use native.Mathlib.Nat.{add-zero, zero-add, not-suc-le-zero}
+use native.Mathlib.Nat.{add-zero, zero-add}
 use native.Mathlib.Numerals.{add-one}
 use native.Mathlib.Omega.{arith}
 use lib.Dec.{eqb}
@@ -15,15 +15,14 @@ use Rattle.format.specs.declared.operation.WriteRecord.{WriteRecord}
 use Rattle.format.specs.Bytes.{byte, be, part}
 use Rattle.format.specs.Checked.{ok}
 use Rattle.format.specs.Operation.{Setting, Item, addressWidth, sizeOf, fieldsAt, allowed, recordAt, operationAt, itemAt}
-use Rattle.format.specs.Pool.{Payload, poolAt}
+use Rattle.format.specs.Pool.{poolAt}
 use Rattle.format.specs.Stream.{Stream, operationsFrom}
 use Rattle.format.specs.Writes.{write, upward, payload, writesWith, writesOf, writesOfAll}
 use Rattle.format.proofs.Accepted.{Accepted, settingFor}
 use Rattle.format.proofs.Checks.{ok-is}
 use Rattle.format.proofs.Steps.{operation-is, operation-step}
 use Rattle.agreement.proofs.Used.{PoolIs, pools-are, copy-fine}
-use Rattle.spans.specs.declared.Segment.{Segment}
-use Rattle.spans.specs.Segments.{spread, segmentAt, segmentWrites, copySource, operationWrites, operationsStop}
+use Rattle.spans.specs.Segments.{spread, segmentAt, segmentWrites, operationWrites, operationsStop}
 
 -- VALUES
 

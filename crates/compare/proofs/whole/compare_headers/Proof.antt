@@ -6,7 +6,7 @@ use mathlib.Core.Path.{sym, ap, _∙_}
 use lib.ListN.{length, take}
 use lib.Seq.{length-take-le}
 use Rattle.format.specs.declared.rule.Refusal.{Refusal}
-use Rattle.format.specs.Compare.{agreed, refusedFile}
+use Rattle.format.specs.Compare.{refusedFile}
 use Rattle.format.specs.Rule.{numberOf}
 use Rattle.format.specs.Stream.{read}
 use Rattle.compare.proofs.Answers.{has, image-stays, master-short, other-short, fits, whole}
@@ -67,6 +67,9 @@ compare-accepted-requires c κs =
     let a = s .args in
     fits (a .master .now) (a .other .now) (a .header) (a .other-header) (has 1 (a .master .now) (a .header) (s .pre .0)) (has 2 (a .other .now) (a .other-header) (s .pre .1))
 
+answer-requires : tie.Need-answer-requires
+answer-requires c κs = search needs
+
 same-length : tie.Need-same-length
 same-length c = search needs
 
@@ -88,30 +91,7 @@ returns-3 c =
     let room′ = c .before .before .before .before .before .before .before .before .if2 .left in
     let e = c .before .before .before .before .before .compare-accepted .ensures in
     let w = whole master other (a .header) (a .other-header) m o image image′ (omega (arith, room, size .ensures)) (omega (arith, room′, size .ensures)) (size .result) (take (size .result) image) (take (size .result) image′) _ _ _ (size .ensures) (length-take-le (size .result) image room) (length-take-le (size .result) image′ room′) (e .1) (e .2) (e .0) in
-    (ap agreed (sym (c .if3 .taken)) ∙ sym (w .0), w .1, w .2)
-
-same-length-3 : tie.Need-same-length-3
-same-length-3 c = search needs
-
-same-length-4 : tie.Need-same-length-4
-same-length-4 c = search needs
-
-returns-4 : tie.Need-returns-4
-returns-4 c =
-    let s = c .before .before .before .before .before .before .before .before .before .before .before .before .before .before .before in
-    let a = s .args in
-    let master = a .master .now in
-    let other = a .other .now in
-    let image = a .master-image .now in
-    let image′ = a .other-image .now in
-    let m = has 1 master (a .header) (s .pre .0) in
-    let o = has 2 other (a .other-header) (s .pre .1) in
-    let size = c .before .before .before .before .before .before .before .before .before .before .image-size in
-    let room = c .before .before .before .before .before .before .before .before .before .if1 .left in
-    let room′ = c .before .before .before .before .before .before .before .before .if2 .left in
-    let e = c .before .before .before .before .before .compare-accepted .ensures in
-    let w = whole master other (a .header) (a .other-header) m o image image′ (omega (arith, room, size .ensures)) (omega (arith, room′, size .ensures)) (size .result) (take (size .result) image) (take (size .result) image′) _ _ _ (size .ensures) (length-take-le (size .result) image room) (length-take-le (size .result) image′ room′) (e .1) (e .2) (e .0) in
-    (ap agreed (sym (c .if3 .left)) ∙ sym (w .0), w .1, w .2)
+    (c .answer .ensures ∙ sym (w .0), w .1, w .2)
 
 pub compare-headers-spec : {M : Type 1} → statement M
 compare-headers-spec =
@@ -127,9 +107,7 @@ compare-headers-spec =
     slice-relend-prefix-compare-accepted-2
     slice-aggregate-compare-accepted-2
     compare-accepted-requires
+    answer-requires
     same-length
     same-length-2
-    returns-3
-    same-length-3
-    same-length-4
-    returns-4)
+    returns-3)
