@@ -1,4 +1,4 @@
-/* The SGUB library: the verdict on a stream file, its cards and its pools, and repacking.
+/* The SGUB library: the verdict on a stream file, its cards and its pools, the player, and repacking.
  *
  * Every function takes any bytes, ends, and keeps no pointer. A file is a pointer and a length; a file of length 0 may have any
  * pointer but NULL. What the numbers mean is in the format sheet's list of refusals. */
@@ -67,6 +67,84 @@ struct sgub_pool_entry {
 };
 
 struct sgub_pool_entry sgub_pool_entry(const uint8_t *file, size_t length, uint32_t directory_offset, uint16_t id);
+
+/* PLAYING. A player is a plain value: it may be copied and put away, and nothing has to be freed. Its file is lent again to each
+ * call. Any numbers may stand in a player's fields (a bool is 0 or 1, as in all of C), so that a player may come from a file too. */
+
+/* What the header of the player's file says; all 0 for a refused file. */
+struct sgub_header {
+    uint8_t version;
+    bool repeat;
+    uint32_t frame_period; /* 0 below version 4 */
+    uint8_t card_count;
+    uint32_t frame_count;
+    uint32_t pool_count;
+    uint32_t initial_count;
+    uint32_t directory_offset;
+    uint32_t initial_start;
+    size_t frame_start;
+    uint32_t total_size;
+};
+
+/* The cards of the player's file; those from the count on are all 0. */
+struct sgub_card_table {
+    struct sgub_card cards[8];
+    size_t count;
+};
+
+/* The pool that was last copied to a channel of a core, if any was. */
+struct sgub_wave_source {
+    bool copied;
+    uint16_t pool; /* 0 if none was */
+};
+
+/* A player: what its start recorded, then its progress. The questions of the original are reads: its version is header.version,
+ * frame_count header.frame_count, repeats header.repeat, frame_period header.frame_period, card_requirements cards, frame_index
+ * frame_index, uses_si22 uses_si22, is_finished finished, and wave_source of core 0 to 1 and channel 0 to 7
+ * wave_sources[8 * core + channel]. */
+struct sgub_player {
+    struct sgub_header header;
+    struct sgub_card_table cards;
+    bool uses_si22; /* some operation has target 11 */
+    uint8_t part;   /* what is playing: 0 nothing yet of the next vsync, 1 the opening, 2 a frame, 3 the closing writes */
+    bool initialized;
+    bool finished;            /* every closing write was given */
+    uint32_t operation_index; /* operations that are done, of operation_count */
+    uint32_t operation_count;
+    uint32_t write_index; /* writes that are done of the operation at cursor, or of the closing writes */
+    uint32_t frame_index; /* frames of this pass that are begun */
+    size_t cursor;
+    struct sgub_wave_source wave_sources[16];
+};
+
+/* The verdict on a file as sgub_check gives it, and its player. The player of a refused file is finished. */
+struct sgub_started {
+    uint32_t number;
+    uint64_t place;
+    struct sgub_player player;
+};
+
+struct sgub_started sgub_start(const uint8_t *file, size_t length);
+
+/* A write: target 0 or 1, a core; 2, PCM memory, which both cores have; 3 to 11, a device. */
+struct sgub_write {
+    uint8_t target;
+    uint32_t address;
+    uint8_t value;
+};
+
+/* What a call of sgub_advance_vsync did. */
+struct sgub_vsync {
+    uint32_t number; /* 0, or 25: player and file do not belong together, and nothing was changed */
+    size_t count;    /* writes at the front of the run */
+    bool complete;   /* no write of this vsync is left */
+};
+
+/* Gives as many of the vsync's remaining writes as the run holds, and leaves the records behind them as they are. A vsync is over
+ * when a call says complete; with a run of n records its w writes take w / n calls, rounded up, and at least one. A run of count
+ * 0 may have any pointer but NULL. Player, file and run do not overlap. */
+struct sgub_vsync sgub_advance_vsync(struct sgub_player *player, const uint8_t *file, size_t length, struct sgub_write *run,
+                                     size_t count);
 
 /* The answer of repacking. */
 struct sgub_repacked {

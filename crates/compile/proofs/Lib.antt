@@ -1,3 +1,5 @@
 pub mod Answers
+pub mod Compiled
 pub mod Made
 pub mod Numbers
+pub mod Sections

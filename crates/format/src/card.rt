@@ -1,6 +1,7 @@
 // The cards that a file of version 4 asks for.
 
 // A card of version 4: the slot that it is for, its name, and the range that FILL and COPY may write.
+#[repr(C)]
 pub struct CardRequirement {
     pub slot: u8,
     pub id_length: u8,
@@ -11,6 +12,7 @@ pub struct CardRequirement {
 }
 
 // Eight cards by value with a count; cards beyond the count are all 0.
+#[repr(C)]
 pub struct CardTable {
     pub cards: [CardRequirement; 8],
     pub count: usize,

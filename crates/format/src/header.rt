@@ -1,6 +1,7 @@
 // The header of a file, whatever its version.
 
 // What the header's fields say. Version 1 has no pools, no cards and period 0; its directory and opening start at 20.
+#[repr(C)]
 pub struct Header {
     pub version: u8,
     pub repeat: bool,

@@ -23,6 +23,7 @@ pub enum Operation {
 }
 
 // One write that playing makes.
+#[repr(C)]
 pub struct WriteRecord {
     pub target: u8,
     pub address: u32,

@@ -11,6 +11,7 @@ pub enum Part {
 }
 
 // The pool that was last copied to a place of 256 bytes of a core, if any was.
+#[repr(C)]
 pub struct WaveSource {
     pub copied: bool,
     pub pool: u16,

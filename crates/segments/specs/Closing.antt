@@ -1,12 +1,13 @@
 -- The closing writes, each a segment: with (11, 0x0C, 0) there are 33, and without it the same ones from the second on.
 use Prim.Native.Nat.{ℕ, _+_, _*_, _-_, _/_, _%_}
-use mathlib.Core.Bool.{false, cond}
+use mathlib.Core.Bool.{cond}
 use lib.Dec.{eqb}
 use Rattle.writes.specs.declared.Segment.{Segment}
+use Rattle.segments.specs.Place.{oneValue}
 
 -- one record of value 0
 abbrev pub zeroTo : (target address : ℕ) → Segment
-zeroTo target address = record { target = target; address = address; count = 1; copied = false; value = 0; from = 0 }
+zeroTo target address = oneValue target address 1 0
 
 -- the closing write of an index
 unfoldable pub closingSegment : (index : ℕ) → Segment

@@ -1,6 +1,6 @@
 -- The writes of one operation as a segment.
 use Prim.Native.Nat.{ℕ, _+_}
-use mathlib.Core.Bool.{Bool, true, false, _||_}
+use mathlib.Core.Bool.{Bool, true, _||_}
 use mathlib.Core.List.{List}
 use lib.Dec.{ltb}
 use Rattle.format.specs.declared.operation.Operation.{Operation}
@@ -8,6 +8,7 @@ use Rattle.format.specs.declared.operation.Operation.the-variants.{Write, Fill,
 use Rattle.format.specs.Pace.{countOf}
 use Rattle.format.specs.Pool.{poolAt}
 use Rattle.writes.specs.declared.Segment.{Segment}
+use Rattle.segments.specs.Place.{oneValue}
 
 -- the address of an operation's first write
 abbrev pub addressOf : Operation → ℕ
@@ -21,9 +22,7 @@ unplayable operation done = ltb (countOf operation) done || ltb 0xFFFFFFFF (addr
 
 -- so many writes behind those that are done, upward from an address
 abbrev pub segmentOf : List ℕ → (directory : ℕ) → Operation → (address done count : ℕ) → Segment
-segmentOf file directory (Write target first value) address done count =
-    record { target = target; address = address; count = count; copied = false; value = value; from = 0 }
-segmentOf file directory (Fill target first size value) address done count =
-    record { target = target; address = address; count = count; copied = false; value = value; from = 0 }
+segmentOf file directory (Write target first value) address done count = oneValue target address count value
+segmentOf file directory (Fill target first size value) address done count = oneValue target address count value
 segmentOf file directory (Copy target first id source size) address done count =
     record { target = target; address = address; count = count; copied = true; value = 0; from = poolAt file directory id .offset + (source + done) }

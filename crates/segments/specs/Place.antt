@@ -5,9 +5,10 @@ use lib.Dec.{eqb}
 use Rattle.writes.specs.declared.Segment.{Segment}
 use Rattle.segments.specs.declared.place.Place.{Place}
 
--- no records
-abbrev pub noSegment : Segment
-noSegment = record { target = 0; address = 0; count = 0; copied = false; value = 0; from = 0 }
+-- so many records of one value, upward from an address
+abbrev pub oneValue : (target address count value : ℕ) → Segment
+oneValue target address count value =
+    record { target = target; address = address; count = count; copied = false; value = value; from = 0 }
 
 -- nothing is left
 abbrev pub stopped : Place → Place

@@ -14,7 +14,7 @@ use Rattle.format.specs.Player.{settingIn}
 use Rattle.format.specs.Stream.{openingLimit}
 use Rattle.segments.specs.declared.place.Place.{Place}
 use Rattle.segments.specs.declared.place.Turn.{Turn}
-use Rattle.segments.specs.Place.{noSegment, stopped, onward, runPlace}
+use Rattle.segments.specs.Place.{oneValue, stopped, onward, runPlace}
 use Rattle.segments.specs.Closing.{closingSegment}
 use Rattle.segments.specs.Operation.{addressOf, unplayable, segmentOf}
 
@@ -24,7 +24,7 @@ limitAt file header place = cond (eqb (place .opening) 0) (length file) (opening
 
 -- there is no next segment
 abbrev pub halted : Place → Turn
-halted place = record { at = runPlace place; segment = noSegment; place = stopped place }
+halted place = record { at = runPlace place; segment = oneValue 0 0 0 0; place = stopped place }
 
 -- the next closing write; with no room behind it nothing is left
 unfoldable pub closingTurn : Place → Turn

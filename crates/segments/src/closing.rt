@@ -1,23 +1,10 @@
 // The closing writes, each a segment.
 use crate::place::less;
+use crate::place::one_value;
 use writes::Segment;
 ghost use mathlib.Core.Path.{_≡_};
-ghost use Prim.Native.Nat.{_-_, _≤_, _<_, _^_};
-ghost use Rattle.segments.specs.Closing.{zeroTo, closingSegment};
-
-// One record of value 0.
-fn zero_to(target: u8, address: u32) -> Segment
-    ensures { λ r. ⌜ r ≡ zeroTo target address ⌝ }
-{
-    Segment {
-        target: target,
-        address: address,
-        count: 1,
-        copied: false,
-        value: 0,
-        from: 0,
-    }
-}
+ghost use Prim.Native.Nat.{_-_};
+ghost use Rattle.segments.specs.Closing.{closingSegment};
 
 // The next closing write, where so many are left.
 pub fn closing_segment(left: usize) -> Segment
@@ -25,13 +12,13 @@ pub fn closing_segment(left: usize) -> Segment
 {
     let index = less(33, left);
     if index == 0 {
-        return zero_to(11, 0x0C);
+        return one_value(11, 0x0C, 1, 0);
     }
     let i = index - 1;
     let core = (i / 16) as u8;
     let channel = ((i % 16) / 2) as u32;
     if i % 2 == 0 {
-        return zero_to(core, 0x800 + 32 * channel + 3);
+        return one_value(core, 0x800 + 32 * channel + 3, 1, 0);
     }
-    zero_to(core, 0x800 + 32 * channel + 0x19)
+    one_value(core, 0x800 + 32 * channel + 0x19, 1, 0)
 }

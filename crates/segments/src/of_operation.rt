@@ -1,4 +1,5 @@
 // The writes of one operation as a segment.
+use crate::place::one_value;
 use format::Operation;
 use pace::count_of;
 use pools::read_pool;
@@ -58,27 +59,13 @@ pub fn segment_of(
             target,
             address: _,
             value,
-        } => Segment {
-            target: target,
-            address: address,
-            count: count,
-            copied: false,
-            value: value,
-            from: 0,
-        },
+        } => one_value(target, address, count, value),
         Operation::Fill {
             target,
             address: _,
             length: _,
             value,
-        } => Segment {
-            target: target,
-            address: address,
-            count: count,
-            copied: false,
-            value: value,
-            from: 0,
-        },
+        } => one_value(target, address, count, value),
         Operation::Copy {
             target,
             address: _,

@@ -2,7 +2,7 @@
 use writes::Segment;
 ghost use mathlib.Core.Path.{_≡_};
 ghost use Prim.Native.Nat.{_-_};
-ghost use Rattle.segments.specs.Place.{noSegment, stopped, nextCursor, onward};
+ghost use Rattle.segments.specs.Place.{oneValue, stopped, nextCursor, onward};
 
 // `left` closing writes, or operations, are still to do. Of these operations `opening` belong to the opening, and the frame's first one
 // stands at `after`; `done` writes of the operation at `cursor` were made. Of `total` records `room` are free.
@@ -34,16 +34,16 @@ pub fn less(a: usize, b: usize) -> usize
     a - b
 }
 
-// The segment of no records.
-pub fn no_segment() -> Segment
-    ensures { λ r. ⌜ r ≡ noSegment ⌝ }
+// So many records of one value, upward from an address.
+pub fn one_value(target: u8, address: u32, count: usize, value: u8) -> Segment
+    ensures { λ r. ⌜ r ≡ oneValue target address count value ⌝ }
 {
     Segment {
-        target: 0,
-        address: 0,
-        count: 0,
+        target: target,
+        address: address,
+        count: count,
         copied: false,
-        value: 0,
+        value: value,
         from: 0,
     }
 }

@@ -6,7 +6,7 @@ use crate::of_operation::unplayable;
 use crate::place::Place;
 use crate::place::Turn;
 use crate::place::less;
-use crate::place::no_segment;
+use crate::place::one_value;
 use crate::place::onward;
 use crate::place::stopped;
 use format::Header;
@@ -35,7 +35,7 @@ fn limit_at(file: &[u8], header: Header, place: Place) -> usize
 fn halted(place: Place) -> Turn
     ensures { λ r. ⌜ r ≡ halted place ⌝ }
 {
-    let segment = no_segment();
+    let segment = one_value(0, 0, 0, 0);
     let end = stopped(place);
     Turn {
         at: less(place.total, place.room),

@@ -1,4 +1,5 @@
 // The static library's surface: include/sgub.h declares these functions for C, rust/sgub for Rust.
+mod play;
 mod repack;
 
 use file_check::FileAnswer;
@@ -7,6 +8,9 @@ use format::CardRequirement;
 use format::CardTable;
 use format::Header;
 use format::Pool;
+pub use play::SgubStarted;
+pub use play::sgub_advance_vsync;
+pub use play::sgub_start;
 pub use repack::SgubRepacked;
 pub use repack::sgub_repack;
 ghost use mathlib.Core.Path.{_≡_};

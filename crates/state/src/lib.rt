@@ -9,7 +9,7 @@ use format::WaveSource;
 ghost use mathlib.Core.List.{[]};
 ghost use mathlib.Core.Path.{_≡_};
 ghost use Rattle.format.specs.Player.{placed, closingAt};
-ghost use Rattle.format.specs.State.{noCard, tableOf, refusedPlayer, moved, waveSource};
+ghost use Rattle.format.specs.State.{noCard, tableOf, partNumber, refusedPlayer, moved, waveSource};
 
 // What stands for a card that is not there.
 pub fn no_card() -> CardRequirement
@@ -150,5 +150,18 @@ pub fn closing_at(progress: Progress, writes: u32, finished: bool) -> Progress
         initialized: true,
         finished: finished,
         wave_sources: waves,
+    }
+}
+
+// What is playing, as a number.
+pub fn part_number(progress: Progress) -> u8
+    ensures { λ r. ⌜ r ≡ partNumber (progress .part) ⌝ }
+{
+    let part = progress.part;
+    match part {
+        Part::Between => 0,
+        Part::Opening => 1,
+        Part::Frame => 2,
+        Part::Closing => 3,
     }
 }

@@ -1,12 +1,12 @@
 -- The run after a call: what `store_call` stores is what the call answers.
-use Prim.Native.Nat.{ℕ, zero, suc, _-_, _<_}
+use Prim.Native.Nat.{ℕ, _-_, _<_}
 use mathlib.Core.Bool.{Bool, true, false, cond, not}
 use mathlib.Core.List.{List, [], _∷_, _++_}
 use mathlib.Core.Path.{_≡_, refl, sym, ap, _∙_}
 use native.Mathlib.Nat.{zero-add}
 use native.Mathlib.Omega.{arith}
 use borrow.Author.Tests.{ne-eqb}
-use lib.Dec.{eqb, ltb}
+use lib.Dec.{ltb}
 use lib.ListN.{length, drop}
 use Rattle.format.specs.declared.operation.WriteRecord.{WriteRecord}
 use Rattle.format.specs.declared.player.Part.{Part}
@@ -15,11 +15,11 @@ use Rattle.format.specs.declared.player.Progress.{Progress}
 use Rattle.format.specs.declared.player.StreamPlayer.{StreamPlayer}
 use Rattle.format.specs.Checked.{Checked, ok, refused, _>>=_, _>>_}
 use Rattle.format.specs.Lent.{stored}
-use Rattle.format.specs.Player.{Played, openingBegun, frameBegun, closingAt, playFrame, playOpening, playClosing, play, belongs, as25, call, runAfter}
+use Rattle.format.specs.Player.{Played, openingBegun, frameBegun, closingAt, playFrame, playOpening, play, belongs, as25, call, runAfter}
 use Rattle.format.proofs.Checks.{refused-not-ok, through, passed-check, ok-is}
 use Rattle.agreement.proofs.Planned.{records-fit}
 use Rattle.segments.specs.declared.place.Place.{Place}
-use Rattle.begin.specs.Begin.{nowhere, closingFrom, frameAt, openingPlace, betweenPlace, partPlace, firstPlace}
+use Rattle.begin.specs.Begin.{nowhere, frameAt, openingPlace, betweenPlace, partPlace, firstPlace}
 use Rattle.writes.specs.Segment.{inserted}
 use Rattle.store.specs.Stored.{storedFrom, storedCall}
 use Rattle.store.proofs.Storing.{stored-none}

@@ -11,7 +11,7 @@ use Rattle.format.specs.declared.operation.WriteRecord.{WriteRecord}
 use Rattle.format.specs.declared.player.Progress.{Progress}
 use Rattle.format.specs.declared.player.StreamPlayer.{StreamPlayer}
 use Rattle.format.specs.Bytes.{be}
-use Rattle.format.specs.Checked.{ok, refused, _>>=_}
+use Rattle.format.specs.Checked.{ok, _>>=_}
 use Rattle.format.specs.Operation.{Item, itemAt}
 use Rattle.format.specs.Player.{settingIn, Gathered, gathered, Played, frameStart, frameBegun, operationsLeft, playFrame, playOpening}
 use Rattle.format.specs.State.{moved}

@@ -6,12 +6,12 @@ use mathlib.Core.Path.{_≡_, refl, sym, ap, _∙_}
 use native.Mathlib.Omega.{arith}
 use borrow.Author.Tests.{ltb-true, ltb-false, leb-true, leb-false}
 use lib.Dec.{leb, ltb}
-use lib.ListN.{length, take, drop, length-drop}
+use lib.ListN.{length, take, length-drop}
 use lib.Seq.{take-all}
 use Rattle.format.specs.declared.operation.WriteRecord.{WriteRecord}
 use Rattle.format.specs.declared.player.Progress.{Progress}
 use Rattle.format.specs.declared.player.StreamPlayer.{StreamPlayer}
-use Rattle.format.specs.Checked.{Checked, ok, _>>=_}
+use Rattle.format.specs.Checked.{ok, _>>=_}
 use Rattle.format.specs.Operation.{Item}
 use Rattle.format.specs.Pace.{countOf}
 use Rattle.format.specs.Player.{itemUsed, bytesAt, Gathered, gathered}

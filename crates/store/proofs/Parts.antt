@@ -1,36 +1,29 @@
 -- The operations of a part: what is stored from the place before them is what `gathered` takes, and then what follows the part.
 use Prim.Native.Nat.{ℕ, zero, suc, _+_, _-_, _≤_, _<_}
-use mathlib.Core.Bool.{Bool, true, false, cond}
-use mathlib.Core.List.{List, [], _∷_, _++_, append-nil, append-assoc}
-use mathlib.Core.Path.{_≡_, refl, sym, ap, subst, _∙_}
+use mathlib.Core.Bool.{false, cond}
+use mathlib.Core.List.{List, [], _++_, append-assoc}
+use mathlib.Core.Path.{_≡_, refl, sym, ap, _∙_}
 use native.Mathlib.Omega.{arith}
-use borrow.Author.Tests.{ltb-true, ltb-false, leb-true, leb-false, le-ltb, le-leb, lt-leb}
-use lib.Dec.{eqb, leb, ltb}
-use lib.ListN.{length, take, drop, length-append, length-take, length-drop}
-use lib.Seq.{take-all, take-at, drop-at, drop-drop, take-append-add, drop-append-add}
+use borrow.Author.Tests.{ltb-false, le-ltb, le-leb, lt-leb}
+use lib.Dec.{eqb, ltb}
+use lib.ListN.{length, take, drop, length-append, length-take}
+use lib.Seq.{take-at, drop-drop, drop-append-add}
 use Rattle.format.specs.declared.operation.Operation.{Operation}
 use Rattle.format.specs.declared.operation.WriteRecord.{WriteRecord}
 use Rattle.format.specs.declared.player.Progress.{Progress}
 use Rattle.format.specs.declared.player.StreamPlayer.{StreamPlayer}
 use Rattle.format.specs.declared.player.WaveSource.{WaveSource}
-use Rattle.format.specs.Checked.{Checked, ok, refused, _>>=_}
+use Rattle.format.specs.Checked.{ok, _>>=_}
 use Rattle.format.specs.Operation.{Item, itemAt}
 use Rattle.format.specs.Pace.{countOf}
 use Rattle.format.specs.Player.{settingIn, itemUsed, bytesAt, wavesBy, placed, Gathered, gathered}
 use Rattle.format.specs.Writes.{writesWith}
 use Rattle.format.proofs.Checks.{through, passed-test, ok-is}
-use Rattle.agreement.proofs.Paced.{Writes, usable}
 use Rattle.segments.specs.declared.place.Place.{Place}
-use Rattle.segments.specs.declared.place.Turn.{Turn}
 use Rattle.segments.specs.Operation.{addressOf, unplayable, segmentOf}
 use Rattle.segments.specs.Place.{stopped, onward}
 use Rattle.segments.specs.Turn.{turn, operationTurn}
-use Rattle.writes.specs.Segment.{inserted, segmentStored}
-use Rattle.writes.proofs.Lists.{length-inserted}
-use Rattle.store.specs.Stored.{storedFrom}
-use Rattle.store.proofs.Storing.{turned, stored-none, stored-step}
-use Rattle.store.proofs.Address.{address-small, item-there}
-use Rattle.store.proofs.Taken.{segmentAt, taken-stored}
+use Rattle.writes.specs.Segment.{inserted}
 
 -- LISTS
 

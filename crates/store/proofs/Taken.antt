@@ -1,5 +1,5 @@
 -- The segment of an operation stores its writes.
-use Prim.Native.Nat.{ℕ, _+_, _-_, _≤_, _<_, min}
+use Prim.Native.Nat.{ℕ, _+_, _≤_, _<_}
 use mathlib.Core.Bool.{true, false, false≢true}
 use mathlib.Core.List.{List}
 use mathlib.Core.Path.{_≡_, refl, sym, ap, _∙_}
@@ -19,7 +19,7 @@ use Rattle.agreement.proofs.Used.{length-upward}
 use Rattle.segments.specs.Operation.{addressOf, segmentOf}
 use Rattle.writes.specs.declared.Segment.{Segment}
 use Rattle.writes.specs.Segment.{recordsOf, inserted, segmentStored}
-use Rattle.writes.proofs.Segments.{Fitting, valueAt, records-count, record-of, stored-all}
+use Rattle.writes.proofs.Segments.{valueAt, records-count, record-of, stored-all}
 
 module _ (file : List ℕ) (directory done n : ℕ) where
   -- the segment of so many writes behind those that are done

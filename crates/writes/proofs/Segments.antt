@@ -91,7 +91,7 @@ value-at file segment n i less = go (segment .copied)
 -- so many records, where their bytes are in the file
 module _ (file : List ℕ) (segment : Segment) (n : ℕ) (within : 0 < n → segment .copied ≡ true → segment .from + n ≤ length file) where
   pub records-count : length (recordsOf file segment n) ≡ n
-  records-count = length-upward (segment .target) (segment .address) (valuesOf file segment n) ∙ values-long file segment n within
+  records-count = length-upward _ _ (valuesOf file segment n) ∙ values-long file segment n within
 
   pub record-of : (i : ℕ) (d : WriteRecord) → i < n → getD (recordsOf file segment n) i d ≡ write (segment .target) (segment .address + i) (valueAt file segment i)
   record-of i d less =

@@ -1,3 +1,3 @@
 pub mod Items
-pub mod Sequence
+pub mod Laid
 pub mod Writing

@@ -6,7 +6,7 @@ use native.Mathlib.Omega.{arith}
 use lib.ListN.{length, length-append}
 use Rattle.big_endian.specs.Put.{put}
 use Rattle.big_endian.proofs.Laws.{length-put}
-use Rattle.written.proofs.Sequence.{put-next, put-none}
+use Rattle.big_endian.proofs.Sequence.{put-next, put-none}
 
 -- `whole` goes to `at` of the memory `before`; `rest` of it is still to go to `place` of the memory `now`
 pub record Writing (whole : List ℕ) (at : ℕ) (before rest : List ℕ) (place : ℕ) (now : List ℕ) : Type 0 where

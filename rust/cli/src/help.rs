@@ -4,7 +4,7 @@ use crate::status::{Failure, Status};
 use std::io::Write;
 
 const HELP: &str = "\
-sgub checks and repacks SGUB music streams.
+sgub checks, plays and repacks SGUB music streams.
 
   sgub check FILE...         print a line for each file:
                                accepted VERSION FRAMES OPENING
@@ -12,6 +12,12 @@ sgub checks and repacks SGUB music streams.
   sgub explain [--all] FILE  print the line and what is behind it: for a refused file
                              the rule that it breaks and the bytes at the place, for an
                              accepted one its header, cards and pools (--all: every pool)
+  sgub play [OPTION]... FILE print the writes of one pass and of the end: for each call
+                               vsync NUMBER WRITES complete (or more)
+                             then its writes, each as TARGET ADDRESS VALUE
+       --vsyncs N            play N vsyncs instead
+       --run N               lend each call N write records (default 4096)
+       --summary             print only how many writes each vsync has, by target
   sgub repack MASTER RESULT  repack a file of version 1 as one of version 2 and print
                                repacked BYTES
                                refused NUMBER PLACE

@@ -6,6 +6,7 @@ mod explain;
 mod help;
 mod input;
 mod output;
+mod play;
 mod repack;
 mod status;
 
@@ -32,6 +33,7 @@ fn run(arguments: &[OsString], out: &mut impl Write) -> Result<Status, Failure> 
     match command.to_str() {
         Some("check") => check::run(arguments, out),
         Some("explain") => explain::run(arguments, out),
+        Some("play") => play::run(arguments, out),
         Some("repack") => repack::run(arguments, out),
         Some("help" | "--help" | "-h") => help::help(out),
         Some("version" | "--version" | "-V") => help::version(out),

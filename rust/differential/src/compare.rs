@@ -3,7 +3,7 @@
 use crate::fields::number;
 use crate::messages;
 use crate::oracle::{self, Accepted, Judged};
-use sgub::{Header, Refusal, Verdict};
+use sgub::{Header, Refusal, StreamPlayer, Verdict};
 
 /// The verdict of the library, or what the original says otherwise.
 ///
@@ -17,7 +17,34 @@ pub fn verdict(file: &[u8]) -> Result<Verdict, String> {
         (_, Ok(_)) => return Err(format!("library {verdict:?}, original accepts")),
         (_, Err(message)) => return Err(format!("library {verdict:?}, original {message:?}")),
     }
+    started(file, &verdict)?;
     Ok(verdict)
+}
+
+/// A start says of a file what the check says.
+fn started(file: &[u8], verdict: &Verdict) -> Result<(), String> {
+    let started = StreamPlayer::start(file);
+    let same = match (&started, verdict) {
+        (Ok(player), Verdict::Accepted(header)) => {
+            (player.version(), player.frame_count(), player.repeats())
+                == (header.version, header.frame_count, header.repeats)
+                && (player.frame_period(), player.uses_si22())
+                    == (header.frame_period, header.uses_si22)
+                && player.card_requirements().len() == usize::from(header.card_count)
+                && (0..)
+                    .zip(player.card_requirements())
+                    .all(|(index, card)| sgub::card(file, index) == Some(card))
+                && (player.frame_index(), player.is_finished()) == (0, false)
+        }
+        (Err(refusal), Verdict::Refused(same)) => refusal == same,
+        _ => false,
+    };
+    if !same {
+        return Err(format!(
+            "library's check {verdict:?}, its start {started:?}"
+        ));
+    }
+    Ok(())
 }
 
 fn refused(file: &[u8], refusal: Refusal, message: &str) -> Result<(), String> {
@@ -217,6 +244,38 @@ mod tests {
             other[at] ^= 1;
             assert!(accepted(&other, &header, &judged).is_err(), "{at}");
         }
+    }
+
+    /// Each fact of a start is compared with the check's, by a header in which it is another.
+    #[test]
+    fn a_start_is_compared_with_the_check() {
+        let file = example("cards-4");
+        let Verdict::Accepted(header) = sgub::check(&file) else {
+            panic!();
+        };
+        started(&file, &Verdict::Accepted(header)).unwrap();
+        let changes: [fn(&mut Header); 6] = [
+            |header| header.version ^= 1,
+            |header| header.repeats ^= true,
+            |header| header.uses_si22 ^= true,
+            |header| header.card_count += 1,
+            |header| header.frame_period += 1,
+            |header| header.frame_count += 1,
+        ];
+        for (index, change) in changes.iter().enumerate() {
+            let mut changed = header;
+            change(&mut changed);
+            assert!(
+                started(&file, &Verdict::Accepted(changed)).is_err(),
+                "{index}"
+            );
+        }
+        let refused = |number, place| Verdict::Refused(Refusal { number, place });
+        assert!(started(&file, &refused(7, 80)).is_err());
+        let file = example("refused-7");
+        started(&file, &refused(7, 80)).unwrap();
+        assert!(started(&file, &refused(7, 48)).is_err());
+        assert!(started(&file, &Verdict::Accepted(header)).is_err());
     }
 
     #[test]

@@ -28,6 +28,7 @@ pub mod messages;
 pub mod model;
 pub mod mutate;
 pub mod oracle;
+pub mod playing;
 pub mod repack_vectors;
 pub mod repacking;
 pub mod rng;

@@ -2,6 +2,8 @@
 //!
 //! No compiler compares these declarations with the header. A test does, with the help of a C compiler.
 
+use crate::WriteRecord;
+
 /// `struct sgub_verdict`
 #[repr(C)]
 pub struct Verdict {
@@ -22,6 +24,7 @@ pub struct Verdict {
 }
 
 /// `struct sgub_card`
+#[derive(Clone, Copy, Debug, PartialEq, Eq)]
 #[repr(C)]
 pub struct Card {
     pub slot: u8,
@@ -50,14 +53,90 @@ pub struct PoolEntry {
     pub offset: u32,
 }
 
+/// `struct sgub_header`
+#[derive(Clone, Copy, Debug, PartialEq, Eq)]
+#[repr(C)]
+pub struct Header {
+    pub version: u8,
+    pub repeat: bool,
+    pub frame_period: u32,
+    pub card_count: u8,
+    pub frame_count: u32,
+    pub pool_count: u32,
+    pub initial_count: u32,
+    pub directory_offset: u32,
+    pub initial_start: u32,
+    pub frame_start: usize,
+    pub total_size: u32,
+}
+
+/// `struct sgub_card_table`
+#[derive(Clone, Copy, Debug, PartialEq, Eq)]
+#[repr(C)]
+pub struct CardTable {
+    pub cards: [Card; 8],
+    pub count: usize,
+}
+
+/// `struct sgub_wave_source`
+#[derive(Clone, Copy, Debug, PartialEq, Eq)]
+#[repr(C)]
+pub struct WaveSource {
+    pub copied: bool,
+    pub pool: u16,
+}
+
+/// `struct sgub_player`
+#[derive(Clone, Copy, Debug, PartialEq, Eq)]
+#[repr(C)]
+pub struct Player {
+    pub header: Header,
+    pub cards: CardTable,
+    pub uses_si22: bool,
+    pub part: u8,
+    pub initialized: bool,
+    pub finished: bool,
+    pub operation_index: u32,
+    pub operation_count: u32,
+    pub write_index: u32,
+    pub frame_index: u32,
+    pub cursor: usize,
+    pub wave_sources: [WaveSource; 16],
+}
+
+/// `struct sgub_started`
+#[repr(C)]
+pub struct Started {
+    pub number: u32,
+    pub place: u64,
+    pub player: Player,
+}
+
+/// `struct sgub_vsync`
+#[repr(C)]
+pub struct Vsync {
+    pub number: u32,
+    pub count: usize,
+    pub complete: bool,
+}
+
 // A function is safe to call with the pointer and the length of a slice: by its proof the library reads within them,
-// writes nothing and keeps no pointer. The pointer of an empty slice is not null, as the header asks.
+// writes only to a lent player and run, and keeps no pointer. The pointer of an empty slice is not null, as the header
+// asks, and references do not overlap.
 unsafe extern "C" {
     fn sgub_check(file: *const u8, length: usize) -> Verdict;
     fn sgub_card(file: *const u8, length: usize, index: usize) -> Card;
     fn sgub_pool(file: *const u8, length: usize, id: u16) -> Pool;
     fn sgub_pool_entry(file: *const u8, length: usize, directory_offset: u32, id: u16)
     -> PoolEntry;
+    fn sgub_start(file: *const u8, length: usize) -> Started;
+    fn sgub_advance_vsync(
+        player: *mut Player,
+        file: *const u8,
+        length: usize,
+        run: *mut WriteRecord,
+        count: usize,
+    ) -> Vsync;
 }
 
 pub fn check(file: &[u8]) -> Verdict {
@@ -78,6 +157,24 @@ pub fn pool(file: &[u8], id: u16) -> Pool {
 pub fn pool_entry(file: &[u8], directory_offset: u32, id: u16) -> PoolEntry {
     // SAFETY: pointer and length of one slice.
     unsafe { sgub_pool_entry(file.as_ptr(), file.len(), directory_offset, id) }
+}
+
+pub fn start(file: &[u8]) -> Started {
+    // SAFETY: pointer and length of one slice.
+    unsafe { sgub_start(file.as_ptr(), file.len()) }
+}
+
+pub fn advance_vsync(player: &mut Player, file: &[u8], run: &mut [WriteRecord]) -> Vsync {
+    // SAFETY: pointer and length of one slice each, and a pointer to one player, all lent for the call.
+    unsafe {
+        sgub_advance_vsync(
+            player,
+            file.as_ptr(),
+            file.len(),
+            run.as_mut_ptr(),
+            run.len(),
+        )
+    }
 }
 
 pub mod repack;

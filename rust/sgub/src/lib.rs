@@ -1,4 +1,4 @@
-//! The proved SGUB library for Rust: the verdict on a stream file, its cards and its pools, and repacking.
+//! The proved SGUB library for Rust: the verdict on a stream file, its cards and its pools, its player, and repacking.
 //!
 //! The library is `crates/sgub` of this repository, and its contracts say what each function answers. This package only
 //! declares its C functions again and makes them safe to call; it decides nothing about a file. Every function takes any
@@ -8,8 +8,10 @@
 
 #[allow(unsafe_code)]
 mod ffi;
+mod player;
 mod repack;
 
+pub use player::{OtherFile, StreamPlayer, Vsync, WriteRecord};
 pub use repack::{LONGEST_RESULT, repack, repack_to_vec};
 
 /// The verdict on a file.
@@ -83,6 +85,19 @@ impl Card {
     }
 }
 
+impl From<ffi::Card> for Card {
+    fn from(card: ffi::Card) -> Self {
+        Self {
+            slot: card.slot,
+            id_length: card.id_length,
+            id_offset: card.id_offset,
+            bulk_start: card.bulk_start,
+            bulk_length: card.bulk_length,
+            id: card.id,
+        }
+    }
+}
+
 /// A pool of a file.
 #[derive(Clone, Copy, Debug, PartialEq, Eq)]
 pub struct Pool<'a> {
@@ -132,14 +147,7 @@ pub fn check(file: &[u8]) -> Verdict {
 pub fn card(file: &[u8], index: usize) -> Option<Card> {
     let card = ffi::card(file, index);
     // The name of a card has at least one byte; the library answers 0 throughout where there is no card.
-    (card.id_length > 0).then_some(Card {
-        slot: card.slot,
-        id_length: card.id_length,
-        id_offset: card.id_offset,
-        bulk_start: card.bulk_start,
-        bulk_length: card.bulk_length,
-        id: card.id,
-    })
+    (card.id_length > 0).then(|| card.into())
 }
 
 /// The pool of a file by its id; `None` where an accepted file has no such pool.

@@ -3,6 +3,7 @@
 mod check;
 mod explain;
 mod launcher;
+mod play;
 mod repack;
 mod usage;
 

@@ -27,6 +27,18 @@ fn bad_usage_is_status_2() {
         &["explain", "--al", "examples/empty-1.sgub"],
         "no option --al",
     );
+    refused(&["play"], "play takes one file");
+    refused(&["play", "--sum", "x"], "no option --sum");
+    refused(
+        &["play", "x", "--vsyncs"],
+        "--vsyncs needs a number from 0 to 18446744073709551615",
+    );
+    for run in ["0", "-1", "16777217", "x"] {
+        refused(
+            &["play", "--run", run, "x"],
+            "--run needs a number from 1 to 16777216",
+        );
+    }
 }
 
 #[test]
@@ -36,6 +48,7 @@ fn help_names_every_command() {
     for command in [
         "check FILE...",
         "explain [--all] FILE",
+        "play [OPTION]... FILE",
         "repack MASTER RESULT",
         "help",
         "--version",

@@ -2,10 +2,12 @@
 
 use differential::compare::{self, Counts};
 use differential::extremes;
-use differential::generate::{Choice, Generator};
+use differential::generate::{Choice, Family, Generator};
+use differential::playing::Comparison;
 use differential::shapes::{Large, large};
 use differential::sheet;
 use differential::vectors::{self, LONGEST};
+use differential::weight;
 use sgub::Verdict;
 use std::collections::{BTreeMap, HashSet};
 
@@ -21,6 +23,28 @@ fn library_and_original_agree_and_every_verdict_occurs() {
     assert_eq!(counts.files(), 200_000);
     assert!(counts.accepted.iter().all(|count| *count > 0), "{counts:?}");
     assert!(counts.refused.iter().all(|count| *count > 0), "{counts:?}");
+}
+
+#[test]
+fn library_and_original_play_alike() {
+    let mut comparison = Comparison::new(11);
+    let choice = Choice {
+        family: Some(Family::Valid),
+        ..Choice::ANY
+    };
+    let mut generator = Generator::new(11, choice);
+    for _ in 0..5_000 {
+        let file = generator.next_file();
+        if weight::writes(file) < 100_000 {
+            let answer = comparison.play(file);
+            answer.unwrap_or_else(|text| panic!("{text}: {file:02x?}"));
+        }
+    }
+    let mut played = comparison.played();
+    assert!(
+        played.numbers().iter().all(|number| **number > 0),
+        "{played:?}"
+    );
 }
 
 #[test]

@@ -1,7 +1,10 @@
 //! Holds the declarations of this module against `include/sgub.h`, by a C compiler.
 
 use super::repack::Repacked;
-use super::{Card, Pool, PoolEntry, Verdict};
+use super::{
+    Card, CardTable, Header, Player, Pool, PoolEntry, Started, Verdict, Vsync, WaveSource,
+};
+use crate::WriteRecord;
 use std::mem::offset_of;
 use std::path::{Path, PathBuf};
 use std::process::Command;
@@ -32,7 +35,7 @@ fn size_of_field<S, F>(_: fn(&S) -> &F) -> usize {
     size_of::<F>()
 }
 
-fn layouts() -> [Layout; 5] {
+fn layouts() -> [Layout; 12] {
     [
         layout!(
             "sgub_verdict",
@@ -76,6 +79,65 @@ fn layouts() -> [Layout; 5] {
         ),
         layout!("sgub_pool_entry", PoolEntry { kind, size, offset }),
         layout!(
+            "sgub_header",
+            Header {
+                version,
+                repeat,
+                frame_period,
+                card_count,
+                frame_count,
+                pool_count,
+                initial_count,
+                directory_offset,
+                initial_start,
+                frame_start,
+                total_size,
+            }
+        ),
+        layout!("sgub_card_table", CardTable { cards, count }),
+        layout!("sgub_wave_source", WaveSource { copied, pool }),
+        layout!(
+            "sgub_player",
+            Player {
+                header,
+                cards,
+                uses_si22,
+                part,
+                initialized,
+                finished,
+                operation_index,
+                operation_count,
+                write_index,
+                frame_index,
+                cursor,
+                wave_sources,
+            }
+        ),
+        layout!(
+            "sgub_started",
+            Started {
+                number,
+                place,
+                player,
+            }
+        ),
+        layout!(
+            "sgub_write",
+            WriteRecord {
+                target,
+                address,
+                value,
+            }
+        ),
+        layout!(
+            "sgub_vsync",
+            Vsync {
+                number,
+                count,
+                complete,
+            }
+        ),
+        layout!(
             "sgub_repacked",
             Repacked {
                 number,
@@ -112,6 +174,9 @@ struct sgub_card sgub_card(const unsigned char *, unsigned long, unsigned long);
 struct sgub_pool sgub_pool(const unsigned char *, unsigned long, unsigned short);
 struct sgub_pool_entry sgub_pool_entry(
     const unsigned char *, unsigned long, unsigned int, unsigned short);
+struct sgub_started sgub_start(const unsigned char *, unsigned long);
+struct sgub_vsync sgub_advance_vsync(
+    struct sgub_player *, const unsigned char *, unsigned long, struct sgub_write *, unsigned long);
 struct sgub_repacked sgub_repack(const unsigned char *, unsigned long, unsigned char *, unsigned long);
 ";
 
@@ -168,6 +233,66 @@ fn the_header_has_these_declarations_and_c_can_call_the_library() {
     };
     let program = compiled.unwrap_or_else(|errors| panic!("{errors}"));
     assert_eq!(Command::new(program).status().unwrap().code(), Some(0));
+}
+
+/// The library itself has this layout: a player of version 4, unplayed and behind the first write of its second operation.
+#[test]
+fn the_library_has_these_declarations() {
+    let examples = Path::new(env!("CARGO_MANIFEST_DIR")).join("../../examples");
+    let file = fs::read(examples.join("cards-4.sgub")).unwrap();
+    let mut started = super::start(&file);
+    let verdict = super::check(&file);
+    let header = Header {
+        version: verdict.version,
+        repeat: verdict.repeats,
+        frame_period: verdict.frame_period,
+        card_count: verdict.card_count,
+        frame_count: verdict.frame_count,
+        pool_count: verdict.pool_count,
+        initial_count: verdict.initial_count,
+        directory_offset: verdict.directory_offset,
+        initial_start: verdict.initial_start,
+        frame_start: verdict.frame_start as usize,
+        total_size: verdict.total_size,
+    };
+    let unplayed = Player {
+        header,
+        cards: CardTable {
+            cards: std::array::from_fn(|index| super::card(&file, index)),
+            count: 2,
+        },
+        uses_si22: true,
+        part: 0,
+        initialized: false,
+        finished: false,
+        operation_index: 0,
+        operation_count: 0,
+        write_index: 0,
+        frame_index: 0,
+        cursor: header.frame_start,
+        wave_sources: [WaveSource {
+            copied: false,
+            pool: 0,
+        }; 16],
+    };
+    assert_eq!((started.number, started.place), (0, 0));
+    assert_eq!(started.player, unplayed);
+
+    // The opening begins with a COPY of a wave, 256 writes, which is 16 bytes long.
+    let mut run = [WriteRecord::default(); 258];
+    let vsync = super::advance_vsync(&mut started.player, &file, &mut run[..257]);
+    assert_eq!((vsync.number, vsync.count, vsync.complete), (0, 257, false));
+    let mut played = Player {
+        part: 1,
+        operation_index: 1,
+        operation_count: 4,
+        write_index: 1,
+        cursor: header.initial_start as usize + 16,
+        ..unplayed
+    };
+    played.wave_sources[1].copied = true;
+    assert_eq!(started.player, played);
+    assert_eq!(run[257], WriteRecord::default());
 }
 
 /// The comparison can fail: an offset off by one is refused, and so is a function with another parameter.

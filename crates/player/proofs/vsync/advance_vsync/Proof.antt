@@ -1,7 +1,7 @@
 -- `advance_vsync` meets its contract: a walk of its MIR, by hand. The state's borrow is opened, the whole state is read, the covered `plan_call` is
 -- called with it, `store_call` stores the records, the next state is stored whole, and the borrow is closed at it. The state's borrow stays open over
 -- both calls; the run is given up to `store_call` for good. All that the proof knows of the callees is that each meets its contract.
-use mathlib.Core.Path.{_≡_, refl, sym, _∙_, ap, subst}
+use mathlib.Core.Path.{_≡_, refl, _∙_, ap, subst}
 use Prim.Native.Nat.{ℕ}
 use mathlib.Core.List.{[], _∷_, List}
 use lib.ListN.{length}
@@ -44,7 +44,6 @@ use denote.Exit.{yes}
 use Rattle.format.specs.declared.operation.WriteRecord.{WriteRecord}
 use Rattle.format.specs.declared.player.StreamPlayer.{StreamPlayer}
 use Rattle.format.specs.Pace.{planned}
-use Rattle.format.specs.Player.{call, runAfter}
 use Rattle.format.proofs.operation.WriteRecord as T
 use Rattle.format.proofs.player.StreamPlayer as P
 use Rattle.format.proofs.player.StreamPlayer.Laws as P′
@@ -61,8 +60,6 @@ use Rattle.store.proofs.store_call as sc
 use Rattle.store.proofs.store_call.Symbol as sc-def
 use Rattle.store.proofs.store_call.Symbol.{name as #store·store-call}
 use Rattle.store.proofs.store_call.Met as sc-thm
-use Rattle.player.specs.declared.vsync.Vsync.{Vsync}
-use Rattle.player.specs.Vsync.{vsyncOf, stateAfter}
 use Rattle.player.proofs.Calls.{toldOf, told-is, state-is, run-is}
 use Rattle.player.proofs.vsync.Vsync as Y
 use Rattle.player.proofs.vsync.Vsync.Laws as Y′

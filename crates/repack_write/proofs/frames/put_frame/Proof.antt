@@ -8,7 +8,7 @@ use Rattle.round_trip.proofs.Places.{length-bytesOf}
 use Rattle.repack.specs.Table.{wavesIn}
 use Rattle.repack.specs.Result.{pieceCount, pieceBytes}
 use Rattle.repack_write.specs.Parts.{framePart}
-use Rattle.written.proofs.Sequence.{put-prepend}
+use Rattle.big_endian.proofs.Sequence.{put-prepend}
 use Rattle.repack_write.proofs.Counted.{pieces-few}
 use Rattle.repack_write.proofs.Parts.{frame-sized}
 use Rattle.repack_write.proofs.frames.put_frame.Statement.{statement}

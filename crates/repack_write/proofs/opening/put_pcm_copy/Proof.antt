@@ -4,7 +4,7 @@ use native.Mathlib.Omega.{arith}
 use borrow.Author.Needs.{needs}
 use lib.ListN.{length}
 use Rattle.written.proofs.Items.{copy-size}
-use Rattle.written.proofs.Sequence.{put-none}
+use Rattle.big_endian.proofs.Sequence.{put-none}
 use Rattle.repack_write.proofs.Parts.{no-copy, some-copy}
 use Rattle.repack_write.proofs.opening.put_pcm_copy.Statement.{statement}
 use Rattle.repack_write.proofs.opening.put_pcm_copy.Tie as tie

@@ -4,7 +4,7 @@ use mathlib.Core.Path.{sym, ap}
 use native.Mathlib.Omega.{arith}
 use borrow.Author.Needs.{needs}
 use lib.ListN.{length}
-use Rattle.written.proofs.Sequence.{put-none}
+use Rattle.big_endian.proofs.Sequence.{put-none}
 use Rattle.written.proofs.Items.{fill-size}
 use Rattle.repack_write.proofs.Parts.{no-fill, full-fill, some-fill}
 use Rattle.repack_write.proofs.opening.put_pcm_fill.Statement.{statement}

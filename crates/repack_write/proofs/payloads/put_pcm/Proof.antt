@@ -9,7 +9,7 @@ use lib.ListN.{length}
 use Rattle.format.specs.Bytes.{byte}
 use Rattle.repack.specs.Result.{pcmBytes}
 use Rattle.repack.proofs.Result.{pcm-byte, pcm-skip, opening-none}
-use Rattle.written.proofs.Sequence.{put-byte}
+use Rattle.big_endian.proofs.Sequence.{put-byte}
 use Rattle.written.proofs.Writing.{Writing, starts, wrote, told, ends}
 use Rattle.repack_write.proofs.payloads.put_pcm.Statement.{statement}
 use Rattle.repack_write.proofs.payloads.put_pcm.Tie as tie

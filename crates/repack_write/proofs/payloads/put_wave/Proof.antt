@@ -7,7 +7,7 @@ use borrow.Author.Needs.{needs}
 use Rattle.format.specs.Bytes.{byte}
 use Rattle.repack.specs.Places.{valuesAt}
 use Rattle.repack.proofs.Pieces.{values-next, values-none, values-count}
-use Rattle.written.proofs.Sequence.{put-byte}
+use Rattle.big_endian.proofs.Sequence.{put-byte}
 use Rattle.written.proofs.Writing.{Writing, starts, wrote, ends}
 use Rattle.repack_write.proofs.payloads.put_wave.Statement.{statement}
 use Rattle.repack_write.proofs.payloads.put_wave.Tie as tie

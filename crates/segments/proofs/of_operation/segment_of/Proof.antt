@@ -6,8 +6,14 @@ use Rattle.segments.proofs.of_operation.segment_of.Tie as tie
 enum-known-operation : tie.Need-enum-known-operation
 enum-known-operation c = search needs
 
+one-value-requires : tie.Need-one-value-requires
+one-value-requires c κs = search needs
+
 enum-known-operation-2 : tie.Need-enum-known-operation-2
 enum-known-operation-2 c = search needs
+
+one-value-requires-2 : tie.Need-one-value-requires-2
+one-value-requires-2 c κs = search needs
 
 enum-known-operation-3 : tie.Need-enum-known-operation-3
 enum-known-operation-3 c = search needs
@@ -31,10 +37,10 @@ add-t21 : tie.Need-add-t21
 add-t21 c = search needs
 
 returns : tie.Need-returns
-returns c = simp (c .before .operation .given .1)
+returns c = simp (c .before .before .operation .given .1, ← (c .one-value .ensures))
 
 returns-2 : tie.Need-returns-2
-returns-2 c = simp (c .before .operation2 .given .1)
+returns-2 c = simp (c .before .before .operation2 .given .1, ← (c .one-value2 .ensures))
 
 returns-3 : tie.Need-returns-3
 returns-3 c = simp (c .before .before .before .operation3 .given .1, c .before .read-pool .ensures)
@@ -44,7 +50,9 @@ segment-of-spec =
     tie.close
     (tie.spec
     enum-known-operation
+    one-value-requires
     enum-known-operation-2
+    one-value-requires-2
     enum-known-operation-3
     cast-read-pool
     read-pool-requires

@@ -4,7 +4,7 @@ use mathlib.Core.Path.{sym}
 use native.Mathlib.Omega.{arith}
 use borrow.Author.Needs.{needs}
 use Rattle.written.specs.Items.{entryBytes, waveEntries}
-use Rattle.written.proofs.Sequence.{put-next}
+use Rattle.big_endian.proofs.Sequence.{put-next}
 use Rattle.written.proofs.Items.{entry-size, directory-plain, directory-pcm, directory-some, directory-none}
 use Rattle.written.proofs.directory.put_directory.Statement.{statement}
 use Rattle.written.proofs.directory.put_directory.Tie as tie

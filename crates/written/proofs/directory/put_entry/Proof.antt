@@ -1,7 +1,7 @@
 -- `written::directory::put_entry` meets its contract. Assumes nothing.
 use native.Mathlib.Omega.{arith}
 use borrow.Author.Needs.{needs}
-use Rattle.written.proofs.Sequence.{put-fields}
+use Rattle.written.proofs.Laid.{put-fields}
 use Rattle.written.specs.Items.{fieldsOf, entryBytes}
 use Rattle.written.proofs.directory.put_entry.Statement.{statement}
 use Rattle.written.proofs.directory.put_entry.Tie as tie

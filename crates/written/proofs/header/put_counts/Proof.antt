@@ -1,7 +1,7 @@
 -- `written::header::put_counts` meets its contract. Assumes nothing.
 use native.Mathlib.Omega.{arith}
 use borrow.Author.Needs.{needs}
-use Rattle.written.proofs.Sequence.{put-fields}
+use Rattle.written.proofs.Laid.{put-fields}
 use Rattle.written.specs.Items.{countFields}
 use Rattle.written.proofs.header.put_counts.Statement.{statement}
 use Rattle.written.proofs.header.put_counts.Tie as tie

@@ -1,7 +1,7 @@
 -- `written::header::put_front` meets its contract. Assumes nothing.
 use native.Mathlib.Omega.{arith}
 use borrow.Author.Needs.{needs}
-use Rattle.written.proofs.Sequence.{put-fields}
+use Rattle.written.proofs.Laid.{put-fields}
 use Rattle.written.specs.Items.{frontFields}
 use Rattle.written.proofs.header.put_front.Statement.{statement}
 use Rattle.written.proofs.header.put_front.Tie as tie

@@ -61,6 +61,7 @@ pub fn timed<T>(call: impl FnOnce() -> T) -> (Duration, T) {
     (start.elapsed(), result)
 }
 
+/// A shape in words.
 pub fn name(shape: Large) -> &'static str {
     match shape {
         Large::V1Records => "version 1, records",

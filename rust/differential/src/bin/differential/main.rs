@@ -2,11 +2,14 @@
 #![forbid(unsafe_code)]
 
 mod bench;
+mod bench_play;
 mod bench_repack;
 mod commands;
+mod plays;
 mod repacks;
 mod selftest;
 mod verdicts;
+mod work;
 
 use std::env;
 use std::error::Error;
@@ -22,8 +25,9 @@ const USAGE: &str = "usage: differential verdict FILE...
        differential vectors DIRECTORY COUNT
        differential repack-vectors DIRECTORY COUNT
        differential verdicts COUNT [SEED]
+       differential plays COUNT [SEED]
        differential repacks COUNT [SEED]
-       differential bench [repack]
+       differential bench [play | repack]
        differential selftest [COUNT]
        differential speed [COUNT]";
 
@@ -64,9 +68,12 @@ fn run(arguments: &[&str], out: &mut impl Write) -> Answer {
         }
         ["verdicts", count] => verdicts::verdicts(count.parse()?, 1, out),
         ["verdicts", count, seed] => verdicts::verdicts(count.parse()?, seed.parse()?, out),
+        ["plays", count] => plays::plays(count.parse()?, 1, out),
+        ["plays", count, seed] => plays::plays(count.parse()?, seed.parse()?, out),
+        ["bench"] => bench::bench(out),
+        ["bench", "play"] => bench_play::bench(out),
         ["repacks", count] => repacks::repacks(count.parse()?, 1, out),
         ["repacks", count, seed] => repacks::repacks(count.parse()?, seed.parse()?, out),
-        ["bench"] => bench::bench(out),
         ["bench", "repack"] => bench_repack::bench(out),
         ["selftest"] => selftest::selftest(1000, out),
         ["selftest", count] => selftest::selftest(count.parse()?, out),

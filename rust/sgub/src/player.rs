@@ -1,0 +1,152 @@
+//! The player.
+
+use crate::{Card, Refusal, ffi, refusal};
+use std::error::Error;
+use std::fmt;
+
+/// One write that playing makes.
+#[derive(Clone, Copy, Debug, Default, PartialEq, Eq, Hash)]
+#[repr(C)]
+pub struct WriteRecord {
+    /// 0 or 1, a core; 2, PCM memory, which both cores have; 3 to 11, a device.
+    pub target: u8,
+    /// The address within the target.
+    pub address: u32,
+    /// The byte that is written.
+    pub value: u8,
+}
+
+/// What a call of [`StreamPlayer::advance_vsync`] did.
+#[derive(Clone, Copy, Debug, PartialEq, Eq)]
+pub struct Vsync {
+    /// How many writes stand at the front of the run.
+    pub count: usize,
+    /// Whether no write of this vsync is left, so that the next call begins the next vsync.
+    pub complete: bool,
+}
+
+/// The refusal of a call, number 25 of the format sheet: the player and the file do not belong together. Player and run
+/// are as they were.
+#[derive(Clone, Copy, Debug, PartialEq, Eq)]
+pub struct OtherFile;
+
+impl fmt::Display for OtherFile {
+    fn fmt(&self, f: &mut fmt::Formatter<'_>) -> fmt::Result {
+        f.write_str("the player and the file do not belong together")
+    }
+}
+
+impl Error for OtherFile {}
+
+/// The player of a stream file. It keeps no part of the file, which is lent again to each call.
+///
+/// # Examples
+///
+/// ```
+/// use sgub::{StreamPlayer, WriteRecord};
+///
+/// // Version 1, one empty frame.
+/// let file = b"SGUB\x01\x10\0\0\0\0\0\x01\0\0\0\0\0\0\0\x16\0\0";
+/// let mut player = StreamPlayer::start(file).unwrap();
+/// let mut run = [WriteRecord::default(); 64];
+/// let mut writes = 0;
+/// while !player.is_finished() {
+///     let vsync = player.advance_vsync(file, &mut run).unwrap();
+///     writes += run[..vsync.count].len();
+/// }
+/// // The closing writes silence both cores.
+/// assert_eq!(writes, 32);
+/// ```
+#[derive(Clone, Debug, PartialEq, Eq)]
+pub struct StreamPlayer(ffi::Player);
+
+impl StreamPlayer {
+    /// Checks a file and starts its player, which has played nothing yet.
+    ///
+    /// # Errors
+    ///
+    /// The refusal that [`check`](crate::check) gives.
+    pub fn start(file: &[u8]) -> Result<Self, Refusal> {
+        let started = ffi::start(file);
+        match refusal(started.number, started.place) {
+            Some(refusal) => Err(refusal),
+            None => Ok(Self(started.player)),
+        }
+    }
+
+    /// Gives as many of the vsync's remaining writes as the run holds, in its first records, and leaves the other records
+    /// as they are.
+    ///
+    /// A vsync may take several calls: it is over when one says that it is complete. With `n` records its `w` writes take
+    /// `w / n` calls, rounded up, and at least one; with no records they never come to an end. The first vsync plays the
+    /// opening and frame 1. Behind the last frame a repeating file plays frame 1 again; another plays the closing writes,
+    /// and then the player is finished and every further vsync is empty.
+    ///
+    /// # Errors
+    ///
+    /// The file is not the player's. With the player's own file this never happens, and a finished player takes any file.
+    pub fn advance_vsync(
+        &mut self,
+        file: &[u8],
+        run: &mut [WriteRecord],
+    ) -> Result<Vsync, OtherFile> {
+        let vsync = ffi::advance_vsync(&mut self.0, file, run);
+        if vsync.number > 0 {
+            return Err(OtherFile);
+        }
+        Ok(Vsync {
+            count: vsync.count,
+            complete: vsync.complete,
+        })
+    }
+
+    /// Format version, 1 to 4.
+    pub fn version(&self) -> u8 {
+        self.0.header.version
+    }
+
+    /// Frames of one pass.
+    pub fn frame_count(&self) -> u32 {
+        self.0.header.frame_count
+    }
+
+    /// Frames of this pass that have begun.
+    pub fn frame_index(&self) -> u32 {
+        self.0.frame_index
+    }
+
+    /// Whether frame 1 follows the last frame.
+    pub fn repeats(&self) -> bool {
+        self.0.header.repeat
+    }
+
+    /// Whether every closing write was given.
+    pub fn is_finished(&self) -> bool {
+        self.0.finished
+    }
+
+    /// Frame period; 0 below version 4.
+    pub fn frame_period(&self) -> u32 {
+        self.0.header.frame_period
+    }
+
+    /// Whether some operation of the file has target 11.
+    pub fn uses_si22(&self) -> bool {
+        self.0.uses_si22
+    }
+
+    /// The cards that the file asks for, in the order of their slots.
+    pub fn card_requirements(&self) -> impl ExactSizeIterator<Item = Card> + '_ {
+        let table = &self.0.cards;
+        table.cards[..table.count].iter().map(|card| (*card).into())
+    }
+
+    /// The wave pool last copied to a channel of a core; none where none was, and none outside of 2 cores with 8 channels.
+    pub fn wave_source(&self, core: usize, channel: usize) -> Option<u16> {
+        if core > 1 || channel > 7 {
+            return None;
+        }
+        let source = self.0.wave_sources[8 * core + channel];
+        source.copied.then_some(source.pool)
+    }
+}
