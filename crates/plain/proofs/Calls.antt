@@ -17,7 +17,7 @@ use Rattle.player.specs.Vsync.{vsyncOf, stateAfter}
 use Rattle.player.proofs.Calls as whole
 use Rattle.plain.specs.declared.call.SgubPlan.{SgubPlan}
 use Rattle.plain.specs.declared.call.SgubVsync.{SgubVsync}
-use Rattle.plain.specs.declared.state.SgubPlayer.{SgubPlayer}
+use Rattle.plain.specs.declared.value.SgubPlayer.{SgubPlayer}
 use Rattle.plain.specs.State.{stateOf, playerFields}
 use Rattle.plain.specs.Call.{planFields, toldOf, vsyncOn, playerAfter}
 

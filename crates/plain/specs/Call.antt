@@ -6,7 +6,7 @@ use Rattle.format.specs.Player.{Played}
 use Rattle.plan.specs.declared.call.CallPlan.{CallPlan}
 use Rattle.plain.specs.declared.call.SgubPlan.{SgubPlan}
 use Rattle.plain.specs.declared.call.SgubVsync.{SgubVsync}
-use Rattle.plain.specs.declared.state.SgubPlayer.{SgubPlayer}
+use Rattle.plain.specs.declared.value.SgubPlayer.{SgubPlayer}
 use Rattle.plain.specs.State.{stateOf, playerFields}
 
 -- the plan of a call, whose only refusal is 25

@@ -6,7 +6,7 @@ use Rattle.format.specs.declared.player.Part.{Part}
 use Rattle.format.specs.declared.player.Part.the-variants.{Between, Opening, Frame, Closing}
 use Rattle.format.specs.declared.player.StreamPlayer.{StreamPlayer}
 use Rattle.format.specs.State.{partNumber}
-use Rattle.plain.specs.declared.state.SgubPlayer.{SgubPlayer}
+use Rattle.plain.specs.declared.value.SgubPlayer.{SgubPlayer}
 
 -- the part of a number: every number has one
 abbrev pub partOf : ℕ → Part

@@ -1,7 +1,7 @@
 // The plan of a vsync call over a state of plain numbers, by value.
-use crate::state::SgubPlayer;
-use crate::state::player_of;
-use crate::state::state_of;
+use crate::value::SgubPlayer;
+use crate::value::player_of;
+use crate::value::state_of;
 use format::StreamPlayer;
 use plan::plan_call;
 ghost use mathlib.Core.Path.{_≡_};

@@ -1,6 +1,6 @@
 -- What the library's struct holds of a start.
 use Rattle.format.specs.Checked.{Checked, ok, refused}
-use Rattle.plain.specs.declared.state.SgubPlayer.{SgubPlayer}
+use Rattle.plain.specs.declared.value.SgubPlayer.{SgubPlayer}
 use Rattle.sgub.specs.declared.play.SgubStarted.{SgubStarted}
 
 -- the verdict as number and place, 0 and 0 for an accepted file, and the state

@@ -5,6 +5,7 @@ mod generators;
 mod large;
 mod library;
 mod limits;
+mod masters;
 mod original;
 mod playing;
 mod repacker;

@@ -48,12 +48,12 @@ use Rattle.format.proofs.player.StreamPlayer as B
 use Rattle.format.proofs.player.StreamPlayer.Laws as B′
 use Rattle.plan.specs.Told.{planTold}
 use Rattle.plain.specs.declared.call.SgubPlan.{SgubPlan}
-use Rattle.plain.specs.declared.state.SgubPlayer.{SgubPlayer}
+use Rattle.plain.specs.declared.value.SgubPlayer.{SgubPlayer}
 use Rattle.plain.specs.State.{stateOf}
 use Rattle.plain.specs.Call.{planFields, toldOf}
 use Rattle.plain.proofs.Calls.{told-is, next-is, run-is}
-use Rattle.plain.proofs.state.SgubPlayer as P
-use Rattle.plain.proofs.state.SgubPlayer.Laws as P′
+use Rattle.plain.proofs.value.SgubPlayer as P
+use Rattle.plain.proofs.value.SgubPlayer.Laws as P′
 use Rattle.plain.proofs.call.SgubPlan as S
 use Rattle.plain.proofs.call.SgubPlan.Laws as S′
 use Rattle.plain.proofs.call.SgubVsync as Y

@@ -24,7 +24,8 @@ const USAGE: &str = "usage: differential verdict FILE...
        differential large BYTES DIRECTORY
        differential examples DIRECTORY
        differential vectors DIRECTORY COUNT
-       differential play_vectors DIRECTORY COUNT
+       differential play-vectors DIRECTORY COUNT
+       differential repack-vectors DIRECTORY COUNT
        differential verdicts COUNT [SEED]
        differential plays COUNT [SEED]
        differential repacks COUNT [SEED]
@@ -64,8 +65,11 @@ fn run(arguments: &[&str], out: &mut impl Write) -> Answer {
         ["large", bytes, directory] => commands::large_files(bytes.parse()?, directory),
         ["examples", directory] => commands::write_examples(directory),
         ["vectors", directory, count] => commands::write_vectors(directory, count.parse()?, out),
-        ["play_vectors", directory, count] => {
-            play_vectors::write_play_vectors(directory, count.parse()?, out)
+        ["play-vectors", directory, count] => {
+            play_vectors::write_vectors(directory, count.parse()?, out)
+        }
+        ["repack-vectors", directory, count] => {
+            repacks::write_vectors(directory, count.parse()?, out)
         }
         ["verdicts", count] => verdicts::verdicts(count.parse()?, 1, out),
         ["verdicts", count, seed] => verdicts::verdicts(count.parse()?, seed.parse()?, out),

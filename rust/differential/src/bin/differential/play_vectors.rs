@@ -1,15 +1,15 @@
 //! Vsync calls with their answers, stored for a program that has no generators.
 
 use crate::Answer;
-use differential::playing_vectors;
+use differential::play_vectors;
 use std::fs;
 use std::io::Write;
 use std::path::Path;
 
 /// Writes `plays.bin` with so many scripts.
-pub fn write_play_vectors(directory: &str, count: usize, out: &mut impl Write) -> Answer {
-    let scripts = playing_vectors::choose(count, 1)?;
-    let bytes = playing_vectors::to_bytes(&scripts);
+pub fn write_vectors(directory: &str, count: usize, out: &mut impl Write) -> Answer {
+    let scripts = play_vectors::choose(count, 1)?;
+    let bytes = play_vectors::to_bytes(&scripts);
     fs::create_dir_all(directory)?;
     fs::write(Path::new(directory).join("plays.bin"), &bytes)?;
     let calls = || scripts.iter().flat_map(|script| &script.calls);

@@ -1,0 +1,29 @@
+-- What the answers of this crate say.
+use Prim.Native.Nat.{ℕ}
+use mathlib.Core.Bool.{true, false}
+use mathlib.Core.List.{List}
+use Rattle.format.specs.declared.header.Header.{Header}
+use Rattle.format.specs.Checked.{Checked, ok, mapped}
+use Rattle.format.specs.Compare.{Compared, agreed, refusedFile, readVersion}
+use Rattle.format.specs.Header.{headerOf}
+use Rattle.format.specs.Rule.{numberOf, refusal}
+use Rattle.format.specs.Stream.{Stream}
+use Rattle.compare.specs.declared.version.VersionCheck.{VersionCheck}
+use Rattle.compare.specs.declared.version.VersionCheck.the-variants.{Accepted, Refused}
+use Rattle.compare.specs.declared.whole.Comparison.{Comparison}
+use Rattle.compare.specs.declared.whole.Comparison.the-variants.{Passed, Failed, MasterRefused, OtherRefused}
+
+-- an accepted file's header, or the refusal
+abbrev pub versionCheckOf : VersionCheck → Checked Header
+versionCheckOf (Accepted header) = ok header
+versionCheckOf (Refused r) = refusal r
+
+abbrev pub versionHeader : (version : ℕ) → List ℕ → Checked Header
+versionHeader version file = mapped (λ (s : Stream). headerOf file) (readVersion version file)
+
+-- the files agree or do not, or which is refused: 1 for the master, 2 for the other
+abbrev pub comparedOf : Comparison → Compared
+comparedOf Passed = agreed true
+comparedOf Failed = agreed false
+comparedOf (MasterRefused r) = refusedFile 1 (numberOf (r .rule)) (r .place)
+comparedOf (OtherRefused r) = refusedFile 2 (numberOf (r .rule)) (r .place)

@@ -1,0 +1,95 @@
+// Two accepted files, a master and one of version 2, by their headers.
+use format::Header;
+use images::draw_master;
+use images::draw_other;
+use images::same_bytes;
+use same::same_frames;
+use same::same_opening;
+ghost use mathlib.Core.Path.{_≡_};
+ghost use Prim.Native.Nat.{_+_, _*_, _≤_};
+ghost use mathlib.Core.Bool.{Bool·beq};
+ghost use lib.ListN.{length};
+ghost use Rattle.compare.specs.Accepted.{masterDrawn, otherDrawn, framesAgree, agreeBy};
+
+fn same_bool(a: bool, b: bool) -> bool
+    ensures { λ r. ⌜ r ≡ Bool·beq a b ⌝ }
+{
+    if a {
+        return b;
+    }
+    !b
+}
+
+// The frames, if there are equally many.
+fn frames_agree(master: &[u8], header: Header, other: &[u8], other_header: Header) -> bool
+    requires { ⌜ (20 + header .«initial_count» * 5 ≤ 0xE00000) × («other_header» .«frame_start» ≤ 0xE00000) ⌝ }
+    ensures { λ r. ⌜ r ≡ framesAgree (now (master .entry)) header (now (other .entry)) «other_header» ⌝ }
+{
+    if header.frame_count != other_header.frame_count {
+        return false;
+    }
+    let start = 20 + header.initial_count * 5;
+    let other_start = other_header.frame_start as u32;
+    same_frames(
+        master,
+        start,
+        other,
+        other_header.directory_offset,
+        other_start,
+        header.frame_count,
+    )
+}
+
+// Whether the files agree, with the images that were drawn of them.
+fn agree_by(
+    master: &[u8],
+    header: Header,
+    other: &[u8],
+    other_header: Header,
+    image: &[u8],
+    other_image: &[u8],
+) -> bool
+    requires { ⌜ (20 + header .«initial_count» * 5 ≤ 0xE00000) × («other_header» .«frame_start» ≤ 0xE00000) ⌝ }
+    ensures { λ r. ⌜ r ≡ agreeBy (now (master .entry)) header (now (other .entry)) «other_header» (now (image .entry)) (now («other_image» .entry)) ⌝ }
+{
+    if !same_bool(header.repeat, other_header.repeat) {
+        return false;
+    }
+    if !same_opening(
+        master,
+        header.initial_count,
+        other,
+        other_header.directory_offset,
+        other_header.initial_start,
+        other_header.initial_count,
+    ) {
+        return false;
+    }
+    if !same_bytes(image, other_image) {
+        return false;
+    }
+    frames_agree(master, header, other, other_header)
+}
+
+// Draws both images, and says whether the files agree.
+pub fn compare_accepted(
+    master: &[u8],
+    header: Header,
+    other: &[u8],
+    other_header: Header,
+    image: &mut [u8],
+    other_image: &mut [u8],
+) -> bool
+    requires { ⌜ (20 + header .«initial_count» * 5 ≤ 0xE00000) × («other_header» .«frame_start» ≤ 0xE00000) ⌝ }
+    ensures { λ r. ⌜ (r ≡ agreeBy (now (master .entry)) header (now (other .entry)) «other_header» (now (image .exit)) (now («other_image» .exit))) × (now (image .exit) ≡ masterDrawn (length (now (image .entry))) (now (master .entry)) header) × (now («other_image» .exit) ≡ otherDrawn (length (now («other_image» .entry))) (now (other .entry)) «other_header») ⌝ }
+{
+    draw_master(master, header.initial_count, image);
+    draw_other(
+        other,
+        other_header.directory_offset,
+        other_header.initial_start,
+        other_header.initial_count,
+        other_image,
+    );
+    agree_by(master, header, other, other_header, image, other_image)
+}

@@ -1,0 +1,72 @@
+-- `same::part::none_kept` meets its contract. Assumes nothing.
+use borrow.Author.Needs.{needs}
+use Prim.Native.Nat.{_+_, _*_, _≤_}
+use mathlib.Core.List.{[]}
+use mathlib.Core.Path.{_≡_, refl}
+use native.Mathlib.Omega.{arith}
+use Rattle.format.specs.Compare.{sameWrites}
+use Rattle.spans.specs.Segments.{recordWrites}
+use Rattle.same.specs.Match.{kept}
+use Rattle.same.proofs.Match.{none-step, none-end}
+use Rattle.same.proofs.part.none_kept.Statement.{statement}
+use Rattle.same.proofs.part.none_kept.Tie as tie
+
+abbrev Inv-loop : tie.InvT-loop
+Inv-loop master start records all at₀ left₀ at left =
+    (at + left * 5 ≤ 0x2000000500000000) × (sameWrites (kept all (recordWrites master records start)) [] ≡ sameWrites (kept all (recordWrites master left at)) [])
+
+abbrev μ-loop : tie.MeasureT-loop
+μ-loop master start records all at₀ left₀ at left = left
+
+loop-holds : tie.Need-loop-holds Inv-loop μ-loop
+loop-holds c = (omega arith, refl)
+
+byte-at-requires : tie.Need-byte-at-requires Inv-loop μ-loop
+byte-at-requires c κs = search needs
+
+is-kept-requires : tie.Need-is-kept-requires Inv-loop μ-loop
+is-kept-requires c κs = search needs
+
+returns : tie.Need-returns Inv-loop μ-loop
+returns c =
+    let l = c .before .before .before .before .loop in
+    let a = c .before .before .before .before .before .before .args in
+    rw (l .inv .1, none-step (a .all) (a .master .now) (l .left) (l .at) (c .before .before .before .loop-test .taken), ← (c .before .before .byte-at .ensures), ← (c .before .is-kept .ensures), c .if1 .taken)
+
+add-at : tie.Need-add-at Inv-loop μ-loop
+add-at c = search needs
+
+sub-left : tie.Need-sub-left Inv-loop μ-loop
+sub-left c = search needs
+
+loop-less : tie.Need-loop-less Inv-loop μ-loop
+loop-less c = search needs
+
+loop-again : tie.Need-loop-again Inv-loop μ-loop
+loop-again c =
+    let l = c .before .before .before .before .loop in
+    let a = c .before .before .before .before .before .before .args in
+    (omega arith, rw (l .inv .1, none-step (a .all) (a .master .now) (l .left) (l .at) (c .before .before .before .loop-test .taken), ← (c .before .before .byte-at .ensures), ← (c .before .is-kept .ensures), c .if1 .left))
+
+returns-2 : tie.Need-returns-2 Inv-loop μ-loop
+returns-2 c =
+    let l = c .before .loop in
+    let a = c .before .before .before .args in
+    let none : l .left ≡ 0 = omega arith in
+    rw (l .inv .1, none, none-end (a .all) (a .master .now) (l .at))
+
+pub none-kept-spec : {M : Type 1} → statement M
+none-kept-spec =
+    tie.close
+    (tie.spec
+    Inv-loop
+    μ-loop
+    loop-holds
+    byte-at-requires
+    is-kept-requires
+    returns
+    add-at
+    sub-left
+    loop-less
+    loop-again
+    returns-2)

@@ -1,0 +1,29 @@
+-- `same::part::same_opening` meets its contract. Assumes nothing.
+use borrow.Author.Needs.{needs}
+use mathlib.Core.Bool.{false}
+use mathlib.Core.Path.{sym, _∙_}
+use Rattle.same.proofs.Match.{part-same, part-differs}
+use Rattle.same.proofs.part.same_opening.Statement.{statement}
+use Rattle.same.proofs.part.same_opening.Tie as tie
+
+same-part-requires : tie.Need-same-part-requires
+same-part-requires c κs = search needs
+
+enum-told : tie.Need-enum-told
+enum-told c = search needs
+
+enum-told-2 : tie.Need-enum-told-2
+enum-told-2 c = search needs
+
+returns : tie.Need-returns
+returns c =
+    let a = c .before .before .before .before .before .args in
+    sym (part-same false (a .master .now) (a .other .now) (a .directory) (a .records) 20 (a .operations) (a .«other-start») _ (sym (c .before .before .same-part .ensures) ∙ c .enum-told .given .1) .0)
+
+returns-2 : tie.Need-returns-2
+returns-2 c =
+    let a = c .before .before .before .before .before .args in
+    sym (part-differs false (a .master .now) (a .other .now) (a .directory) (a .records) 20 (a .operations) (a .«other-start») (sym (c .before .before .same-part .ensures) ∙ c .enum-told2 .given .1))
+
+pub same-opening-spec : {M : Type 1} → statement M
+same-opening-spec = tie.close (tie.spec same-part-requires enum-told enum-told-2 returns returns-2)

@@ -1,0 +1,95 @@
+-- `same::part::same_part` meets its contract. Assumes nothing.
+use borrow.Author.Needs.{needs}
+use native.Mathlib.Omega.{arith}
+use Prim.Native.Nat.{_+_, _-_, _*_, _≤_}
+use mathlib.Core.Path.{_≡_, refl, sym, ap, _∙_}
+use Rattle.spans.specs.declared.Segment.{Segment}
+use Rattle.same.specs.Match.{matchedPart}
+use Rattle.spans.proofs.Near.{next-near}
+use Rattle.same.proofs.Match.{operation-place, part-step, part-end}
+use Rattle.same.proofs.part.same_part.Statement.{statement}
+use Rattle.same.proofs.part.same_part.Tie as tie
+
+abbrev Inv-loop : tie.InvT-loop
+Inv-loop master start records all other directory «other_start» operations at₀ left₀ from₀ count₀ at left from count =
+    (at + left * 5 ≤ 0x800000500000000)
+    × (from + count * 15 ≤ 0x800000F00000000)
+    × (matchedPart all master other directory records start operations «other_start» ≡ matchedPart all master other directory left at count from)
+
+abbrev μ-loop : tie.MeasureT-loop
+μ-loop master start records all other directory «other_start» operations at₀ left₀ from₀ count₀ at left from count =
+    count
+
+loop-holds : tie.Need-loop-holds Inv-loop μ-loop
+loop-holds c = (omega arith, omega arith, refl)
+
+segment-at-requires : tie.Need-segment-at-requires Inv-loop μ-loop
+segment-at-requires c κs = search needs
+
+same-operation-requires : tie.Need-same-operation-requires Inv-loop μ-loop
+same-operation-requires c κs = (omega arith, c .segment-at .ensures .1)
+
+enum-known-behind : tie.Need-enum-known-behind Inv-loop μ-loop
+enum-known-behind c = search needs
+
+enum-told : tie.Need-enum-told Inv-loop μ-loop
+enum-told c = search needs
+
+returns : tie.Need-returns Inv-loop μ-loop
+returns c =
+    let l = c .before .before .before .before .before .loop in
+    let a = c .before .before .before .before .before .before .before .before .args in
+    let s = c .before .before .before in
+    rw (l .inv .2, part-step (a .all) (a .master .now) (a .other .now) (a .directory) (l .left) (l .at) (l .count) (l .from) (s .before .loop-test .taken), ← (s .segment-at .ensures .0), ← (c .before .before .same-operation .ensures), c .enum-told .given .1)
+
+sub-count : tie.Need-sub-count Inv-loop μ-loop
+sub-count c = search needs
+
+loop-less : tie.Need-loop-less Inv-loop μ-loop
+loop-less c = search needs
+
+loop-again : tie.Need-loop-again Inv-loop μ-loop
+loop-again c =
+    let l = c .before .before .before .before .before .before .loop in
+    let a = c .before .before .before .before .before .before .before .before .before .args in
+    let s = c .before .before .before .before in
+    let e = sym (c .before .before .before .same-operation .ensures) ∙ c .before .behind .given .1 in
+    let place = operation-place (a .all) (a .master .now) (a .other .now) (s .segment-at .result) (l .left) (l .at) _ _ e in
+    let near = ap (λ (x : Segment). x .next) (s .segment-at .ensures .0) in
+    (omega (arith, place), omega (arith, near, next-near (a .other .now) (a .directory) (l .from)), l .inv .2 ∙ part-step (a .all) (a .master .now) (a .other .now) (a .directory) (l .left) (l .at) (l .count) (l .from) (s .before .loop-test .taken) ∙ rw (← (s .segment-at .ensures .0), ← (c .before .before .before .same-operation .ensures), c .before .behind .given .1))
+
+none-kept-requires : tie.Need-none-kept-requires Inv-loop μ-loop
+none-kept-requires c κs = search needs
+
+returns-2 : tie.Need-returns-2 Inv-loop μ-loop
+returns-2 c =
+    let l = c .before .before .before .loop in
+    let a = c .before .before .before .before .before .before .args in
+    let none : l .count ≡ 0 = omega arith in
+    rw (l .inv .2, none, part-end (a .all) (a .master .now) (a .other .now) (a .directory) (l .left) (l .at) (l .from), ← (c .before .none-kept .ensures), c .if1 .taken)
+
+returns-3 : tie.Need-returns-3 Inv-loop μ-loop
+returns-3 c =
+    let l = c .before .before .before .loop in
+    let a = c .before .before .before .before .before .before .args in
+    let none : l .count ≡ 0 = omega arith in
+    rw (l .inv .2, none, part-end (a .all) (a .master .now) (a .other .now) (a .directory) (l .left) (l .at) (l .from), ← (c .before .none-kept .ensures), c .if1 .left)
+
+pub same-part-spec : {M : Type 1} → statement M
+same-part-spec =
+    tie.close
+    (tie.spec
+    Inv-loop
+    μ-loop
+    loop-holds
+    segment-at-requires
+    same-operation-requires
+    enum-known-behind
+    enum-told
+    returns
+    sub-count
+    loop-less
+    loop-again
+    none-kept-requires
+    returns-2
+    returns-3)

@@ -1,0 +1,46 @@
+// The frames of both files.
+use crate::part::PartMatch;
+use crate::part::same_part;
+use big_endian::read_u16;
+ghost use mathlib.Core.Path.{_≡_};
+ghost use Rattle.same.specs.Match.{sameFramesAt};
+
+// So many frames of each file, from a place on.
+pub fn same_frames(
+    master: &[u8],
+    start: u32,
+    other: &[u8],
+    directory: u32,
+    other_start: u32,
+    frames: u32,
+) -> bool
+    ensures { λ r. ⌜ r ≡ sameFramesAt (now (master .entry)) (now (other .entry)) directory frames start «other_start» ⌝ }
+{
+    let mut at = start as usize;
+    let mut from = other_start as usize;
+    let mut left = frames;
+    while 0 < left {
+        let records = read_u16(master, at);
+        let operations = read_u16(other, from);
+        match same_part(
+            master,
+            at + 2,
+            records as u32,
+            true,
+            other,
+            directory,
+            from + 2,
+            operations as u32,
+        ) {
+            PartMatch::Same(next) => {
+                from = next;
+            }
+            PartMatch::Differs => {
+                return false;
+            }
+        }
+        at += 2 + records as usize * 5;
+        left -= 1;
+    }
+    true
+}
