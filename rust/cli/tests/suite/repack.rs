@@ -150,11 +150,11 @@ fn an_unwritable_folder_keeps_its_file() {
 #[test]
 fn a_write_that_fails_half_way_leaves_nothing() {
     let folder = folder("repack-full");
-    // 300 empty frames: 642 bytes, repacked above the limit of 512.
+    // 1,000 empty frames: the result has 2,040 bytes, and the limit is one block, 512 or 1,024 by the shell.
     let mut master = P3.to_vec();
-    master.resize(20 + 600, 0);
-    master[8..12].copy_from_slice(&300_u32.to_be_bytes());
-    master[16..20].copy_from_slice(&620_u32.to_be_bytes());
+    master.resize(2020, 0);
+    master[8..12].copy_from_slice(&1000_u32.to_be_bytes());
+    master[16..20].copy_from_slice(&2020_u32.to_be_bytes());
     fs::write(folder.join("master"), &master).unwrap();
     fs::write(folder.join("result"), b"old").unwrap();
     // The signal is ignored, so that the write itself fails.
