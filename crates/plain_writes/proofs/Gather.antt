@@ -16,7 +16,7 @@ use Rattle.plain_writes.specs.Plain.{plainSize, plainAt, plainBehind, pl
 use Rattle.plain_writes.proofs.Items.{plainOperation, plain-writes, plain-used}
 
 -- so many plain WRITEs: each of them is plain, and the place behind them is by their size
-all-plain : (version : ℕ) (file : List ℕ) (end count at : ℕ) → 0 < plainBehind version file end (suc count) at → (plainAt version file end at ≡ true) × (plainBehind version file end (suc count) at ≡ plainBehind version file end count (at + plainSize version))
+pub all-plain : (version : ℕ) (file : List ℕ) (end count at : ℕ) → 0 < plainBehind version file end (suc count) at → (plainAt version file end at ≡ true) × (plainBehind version file end (suc count) at ≡ plainBehind version file end count (at + plainSize version))
 unfolding plainBehind
 all-plain version file end count at some = go (plainAt version file end at) refl some
   where

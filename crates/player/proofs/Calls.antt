@@ -10,12 +10,19 @@ use Rattle.format.specs.declared.player.StreamPlayer.{StreamPlayer}
 use Rattle.format.specs.Checked.{Checked, ok, refused, mapped, _>>_}
 use Rattle.format.specs.Pace.{planOf, planned}
 use Rattle.format.specs.Player.{Played, play, belongs, as25, call, runAfter}
+use Rattle.format.specs.State.{moved}
 use Rattle.format.proofs.Checks.{refused-not-ok}
 use Rattle.agreement.proofs.Planned.{planned-is}
 use Rattle.plan.specs.declared.call.CallPlan.{CallPlan}
 use Rattle.plan.specs.Told.{planTold}
 use Rattle.store.specs.Stored.{storedCall}
 use Rattle.store.proofs.Call.{stored-nothing, call-stored}
+use Rattle.quick_step.specs.declared.Step.{Step}
+use Rattle.quick_step.specs.Step.{stepOf, stepped}
+use Rattle.quick_step.proofs.Stepped.{step-call}
+use Rattle.quick_step.proofs.Plainly.{step-plainly}
+use Rattle.store_writes.specs.Stored.{writesStored}
+use Rattle.store_writes.proofs.Writes.{writes-long, storable-all}
 use Rattle.player.specs.declared.vsync.Vsync.{Vsync}
 use Rattle.player.specs.Vsync.{vsyncOf, stateAfter}
 
@@ -67,3 +74,22 @@ module _ (state : StreamPlayer) (file : List ℕ) (run : List WriteRecord) where
       go : (a : Checked Played) → call state file (length run) ≡ a → storedCall file state (planTold state (mapped planOf a) .count) run ≡ runAfter run (call state file (length run))
       go (ok a) e = call-stored file state run a e
       go (refused number place) e = stored-nothing file state run ∙ ap (runAfter run) (sym e)
+
+-- A STEP THAT IS TAKEN
+
+-- what it tells, and the state behind it
+abbrev pub stepTold : Step → Vsync
+stepTold step = record { number = 0; count = step .count; complete = step .complete }
+
+abbrev pub steppedOn : StreamPlayer → Step → StreamPlayer
+steppedOn state step = moved state (stepped (state .progress) step)
+
+pub step-told : (state : StreamPlayer) (file : List ℕ) (run : List WriteRecord) (step : Step) (zs : List WriteRecord) → step ≡ stepOf file (state .header) (state .cards .count) (state .progress) (length run) → step .taken ≡ true → zs ≡ writesStored file (state .header .version) (step .from) (step .count) run → (stepTold step ≡ vsyncOf (call state file (length run))) × (steppedOn state step ≡ stateAfter state (call state file (length run))) × (zs ≡ runAfter run (call state file (length run)))
+unfolding writesStored
+step-told state file run step zs e taken wrote =
+    let version = state .header .version in
+    let is = step-call state file (length run) step e taken in
+    let plainly = step-plainly file (length run) (state .header) (state .cards .count) (state .progress) step e taken in
+    let long = writes-long version file (step .count) (step .from) in
+    let all = storable-all version file (length run) (plainly .end) (step .from) (step .count) (plainly .inside) (plainly .fit) (plainly .some) in
+    (rw (is, long), rw is, rw is (wrote ∙ rw all))

@@ -1,2 +1,3 @@
 pub mod Takes
 pub mod Stepped
+pub mod Plainly

@@ -36,7 +36,7 @@ module _ (state : StreamPlayer) (file : List ℕ) (room : ℕ) where
   version = state .header .version
 
   -- what a call answers by a step from a progress
-  abbrev answerOf : Progress → Step → Played
+  abbrev pub answerOf : Progress → Step → Played
   answerOf q step =
       record { records = plainWrites version file (step .count) (step .from); complete = step .complete; next = moved state (stepped q step) }
 
