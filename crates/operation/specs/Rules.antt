@@ -3,7 +3,7 @@ use Prim.Native.Nat.{ℕ}
 use Rattle.format.specs.declared.operation.Operation.{Operation}
 use Rattle.format.specs.declared.operation.Operation.the-variants.{Write, Fill, Copy}
 use Rattle.format.specs.declared.pool.Pool.{Pool}
-use Rattle.format.specs.declared.target.Target.{Target}
+use Rattle.targets.specs.declared.Target.{Target}
 use Rattle.format.specs.Checked.{Checked, ok, _>>_}
 use Rattle.format.specs.Operation.{Item, writeRules, fillRules, copyRules}
 

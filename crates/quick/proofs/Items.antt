@@ -9,7 +9,7 @@ use borrow.Author.Tests.{ltb-true, ltb-false, leb-true, leb-false, eqb-true, le-
 use lib.Dec.{eqb, leb, ltb}
 use lib.ListN.{length, getD}
 use Rattle.format.specs.declared.card.CardRequirement.{CardRequirement}
-use Rattle.format.specs.declared.target.Target.{Target}
+use Rattle.targets.specs.declared.Target.{Target}
 use Rattle.format.specs.Bytes.{byte, be, part}
 use Rattle.format.specs.Checked.{ok}
 use Rattle.format.specs.Operation.{Setting, addressWidth, sizeOf, fieldsAt, writeRules, allowed, operationAt, recordAt, itemAt}

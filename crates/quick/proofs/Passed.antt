@@ -6,7 +6,7 @@ use native.Mathlib.Omega.{arith}
 use borrow.Author.Tests.{ltb-true, leb-false, eqb-true, not-true, le-ltb}
 use lib.Dec.{eqb, leb, ltb}
 use Rattle.format.specs.declared.pool.Pool.{Pool}
-use Rattle.format.specs.declared.target.Target.{Target}
+use Rattle.targets.specs.declared.Target.{Target}
 use Rattle.format.specs.Checked.{ok}
 use Rattle.format.specs.Operation.{copyWrong, writeRules, fillRules, copyRules}
 use Rattle.format.specs.Target.{missing, writeLimit, bulkStart, bulkLength, outside, kindFor}

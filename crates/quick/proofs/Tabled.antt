@@ -10,8 +10,8 @@ use borrow.Author.Tests.{eqb-true, eqb-false}
 use lib.Dec.{eqb, lit≤}
 use lib.ListN.{length, getD, set, take, length-append, length-set, List·getD-append}
 use lib.Seq.{getD-at, take-all, take-suc-set}
-use Rattle.format.specs.declared.target.Target.{Target}
-use Rattle.format.specs.declared.target.Target.the-variants.{Core, Pcm, Bank, Slot, Si22, Missing}
+use Rattle.targets.specs.declared.Target.{Target}
+use Rattle.targets.specs.declared.Target.the-variants.{Core, Pcm, Bank, Slot, Si22, Missing}
 use Rattle.format.specs.Target.{writeLimit}
 use Rattle.quick.specs.Limits.{tabled}
 

@@ -4,7 +4,7 @@ use mathlib.Core.Bool.{cond}
 use mathlib.Core.Path.{_≡_}
 use mathlib.Core.List.{List, [], _∷_, _++_}
 use Rattle.format.specs.declared.card.CardRequirement.{CardRequirement}
-use Rattle.format.specs.declared.target.Target.{Target}
+use Rattle.targets.specs.declared.Target.{Target}
 use Rattle.format.specs.Target.{targetOf, missing, writeLimit, bulkStart, bulkLength, kindFor}
 
 -- the address behind the last one of a WRITE; a missing target has none

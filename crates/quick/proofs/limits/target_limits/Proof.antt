@@ -4,7 +4,7 @@ use native.Mathlib.Omega.{arith}
 use Prim.Native.Nat.{ℕ, _-_, _≤_}
 use mathlib.Core.Path.{_≡_, ap, _∙_}
 use Rattle.format.specs.declared.card.CardTable.{CardTable}
-use Rattle.format.specs.declared.target.Target.{Target}
+use Rattle.targets.specs.declared.Target.{Target}
 use Rattle.format.specs.Card.{cardsOf}
 use Rattle.format.specs.Target.{targetOf, bulkStart, kindFor}
 use Rattle.quick.specs.Limits.{writeEnd, bulkEnd}

@@ -1,9 +1,9 @@
--- `format::outside` meets its contract. Assumes nothing.
+-- `targets::Target::outside` meets its contract. Assumes nothing.
 use borrow.Author.Needs.{needs}
-use Rattle.format.proofs.Decided.{decided}
-use Rattle.format.specs.Target.{outside}
-use Rattle.format.proofs.target.Target.outside.Statement.{statement}
-use Rattle.format.proofs.target.Target.outside.Tie as tie
+use Rattle.targets.proofs.Decided.{decided}
+use Rattle.targets.specs.Target.{outside}
+use Rattle.targets.proofs.Target.outside.Statement.{statement}
+use Rattle.targets.proofs.Target.outside.Tie as tie
 
 bulk-start-requires : tie.Need-bulk-start-requires
 bulk-start-requires c κs = search needs

@@ -1,7 +1,7 @@
 // "Each target owns its named limits": what a target number stands for in a file, its write limit, its bulk limit, and the
 // slot of a card target.
 ghost use mathlib.Core.Path.{_≡_};
-ghost use Rattle.format.specs.Target.{slotOf, missing, writeLimit, bulkStart, bulkLength, outside, kindFor};
+ghost use Rattle.targets.specs.Target.{slotOf, missing, writeLimit, bulkStart, bulkLength, outside, kindFor};
 
 // What a target number stands for in a file: a core, PCM memory, version 3's target 3, a slot of version 4 with its card's
 // bulk range, target 11, or nothing.
