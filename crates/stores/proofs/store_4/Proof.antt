@@ -1,9 +1,9 @@
--- `big_endian::store_4` meets its contract. Assumes nothing.
+-- `stores::store_4` meets its contract. Assumes nothing.
 use borrow.Author.Needs.{needs}
 use native.Mathlib.Omega.{arith}
-use Rattle.big_endian.proofs.Laws.{put-next}
-use Rattle.big_endian.proofs.store_4.Statement.{statement}
-use Rattle.big_endian.proofs.store_4.Tie as tie
+use Rattle.stores.proofs.Laws.{put-next}
+use Rattle.stores.proofs.store_4.Statement.{statement}
+use Rattle.stores.proofs.store_4.Tie as tie
 
 store-3-requires : tie.Need-store-3-requires
 store-3-requires c κs = search needs

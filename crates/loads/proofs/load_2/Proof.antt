@@ -1,9 +1,9 @@
--- `big_endian::load_2` meets its contract. Assumes nothing.
+-- `loads::load_2` meets its contract. Assumes nothing.
 use borrow.Author.Needs.{needs}
 use native.Mathlib.Omega.{arith}
 use Rattle.format.proofs.Bytes.{be-first, be-next}
-use Rattle.big_endian.proofs.load_2.Statement.{statement}
-use Rattle.big_endian.proofs.load_2.Tie as tie
+use Rattle.loads.proofs.load_2.Statement.{statement}
+use Rattle.loads.proofs.load_2.Tie as tie
 
 shared-slice-read-wide : tie.Need-shared-slice-read-wide
 shared-slice-read-wide c = search needs

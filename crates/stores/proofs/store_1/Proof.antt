@@ -1,9 +1,9 @@
--- `big_endian::store_1` meets its contract. Assumes nothing.
+-- `stores::store_1` meets its contract. Assumes nothing.
 use borrow.Author.Needs.{needs}
 use native.Mathlib.Omega.{arith}
-use Rattle.big_endian.proofs.Laws.{put-first}
-use Rattle.big_endian.proofs.store_1.Statement.{statement}
-use Rattle.big_endian.proofs.store_1.Tie as tie
+use Rattle.stores.proofs.Laws.{put-first}
+use Rattle.stores.proofs.store_1.Statement.{statement}
+use Rattle.stores.proofs.store_1.Tie as tie
 
 cast-buffer : tie.Need-cast-buffer
 cast-buffer c = search needs
