@@ -1,0 +1,84 @@
+// Looks up a pool of an accepted file.
+use file_check::FileAnswer;
+use file_check::check_file;
+use format::Header;
+use format::Pool;
+use format::Refusal;
+use pools::read_pool;
+ghost use mathlib.Core.Path.{_≡_};
+ghost use Rattle.format.specs.Bytes as bytes;
+ghost use Rattle.format.specs.Lookup.{poolKind, poolPayload};
+ghost use Rattle.pool_lookup.specs.Found.{entryOf, poolFoundOf, poolFound, poolKindOf};
+
+// The entry of a pool, all 0 for an unknown pool; or the refusal of the file.
+pub enum PoolFound {
+    Entry(Pool),
+    Refused(Refusal),
+}
+
+// The kind of a pool, 0 for an unknown pool; or the refusal of the file.
+pub enum PoolKind {
+    Kind(u8),
+    Refused(Refusal),
+}
+
+fn entry_of(file: &[u8], header: Header, id: u16) -> Pool
+    ensures { λ r. ⌜ r ≡ entryOf (now (file .entry)) header id ⌝ }
+{
+    if (id as u32) < header.pool_count {
+        return read_pool(file, header.directory_offset, id as u32);
+    }
+    Pool {
+        kind: 0,
+        size: 0,
+        offset: 0,
+    }
+}
+
+// The entry of a pool of an accepted file.
+pub fn find_pool(file: &[u8], id: u16) -> PoolFound
+    ensures { λ r. ⌜ poolFoundOf r ≡ poolFound (now (file .entry)) id ⌝ }
+{
+    let checked = check_file(file);
+    let answer = checked.answer;
+    match answer {
+        FileAnswer::Accepted {
+            header,
+            uses_si22: _,
+        } => PoolFound::Entry(entry_of(file, header, id)),
+        FileAnswer::Refused(refusal) => PoolFound::Refused(refusal),
+    }
+}
+
+// So many bytes of a file from a place, as far as they are there.
+fn part(file: &[u8], place: usize, size: usize) -> &[u8]
+    ensures { λ r. ⌜ now r ≡ bytes.part (now (file .entry)) place size ⌝ }
+{
+    if file.len() < place {
+        return &file[0..0];
+    }
+    if file.len() - place < size {
+        return &file[place..];
+    }
+    &file[place..place + size]
+}
+
+// The kind of a pool.
+pub fn pool_kind(file: &[u8], id: u16) -> PoolKind
+    ensures { λ r. ⌜ poolKindOf r ≡ poolKind (now (file .entry)) id ⌝ }
+{
+    match find_pool(file, id) {
+        PoolFound::Entry(pool) => PoolKind::Kind(pool.kind),
+        PoolFound::Refused(refusal) => PoolKind::Refused(refusal),
+    }
+}
+
+// The part of the file that is a pool's payload; empty for an unknown pool and for a refused file.
+pub fn pool_payload(file: &[u8], id: u16) -> &[u8]
+    ensures { λ r. ⌜ now r ≡ poolPayload (now (file .entry)) id ⌝ }
+{
+    match find_pool(file, id) {
+        PoolFound::Entry(pool) => part(file, pool.offset as usize, pool.size as usize),
+        PoolFound::Refused(_) => &file[0..0],
+    }
+}
