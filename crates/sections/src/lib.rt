@@ -1,6 +1,6 @@
 // What the rules 8, 9 and 12 refuse: the counts and the total size, the directory, and the places of opening and frames.
 use format::Header;
-use header::header_size;
+use header_rules::header_size;
 ghost use mathlib.Core.Path.{_≡_};
 ghost use Rattle.format.specs.Stream.{countsWrong, sectionsWrong};
 ghost use Rattle.sections.specs.Directory.{directoryWrong};

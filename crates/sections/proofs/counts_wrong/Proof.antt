@@ -1,5 +1,5 @@
 -- `sections::counts_wrong` meets its contract. Assumes nothing.
-use Rattle.header.proofs.Size.{header-small}
+use Rattle.header_rules.proofs.Size.{header-small}
 use borrow.Author.Tests.{eq-eqb, ne-eqb, le-ltb, lt-ltb}
 use mathlib.Core.Bool.{or-true}
 use Rattle.format.specs.Stream.{countsWrong}
