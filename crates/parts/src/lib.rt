@@ -4,12 +4,13 @@ use format::CardTable;
 use format::Header;
 use format::Refusal;
 use format::Rule;
+use limit_tables::TARGETS;
+use limit_tables::target_limits;
 use operation::Walked;
 use operation::check_operations;
 use quick::QuickRun;
-use quick::TARGETS;
+use quick::either;
 use quick::quick_run;
-use quick::target_limits;
 ghost use mathlib.Core.Path.{_≡_};
 ghost use mathlib.Core.Bool.{_||_};
 ghost use Prim.Native.Nat.{_+_};
@@ -19,7 +20,7 @@ ghost use Rattle.format.specs.Card.{cardsOf};
 ghost use Rattle.format.specs.Operation.{settingOf};
 ghost use Rattle.format.specs.Stream.{openingLimit};
 ghost use Rattle.operation.specs.Answer.{walkedOf};
-ghost use Rattle.quick.specs.Limits.{LimitsOf};
+ghost use Rattle.limit_tables.specs.Limits.{LimitsOf};
 ghost use Rattle.quick.specs.Run.{quickRun};
 ghost use Rattle.parts.specs.Walk.{operationsSaid, framesSaid, framesChecked, partsFrom, skipped};
 ghost use Rattle.parts.specs.Answer.{partsOf};
@@ -38,15 +39,6 @@ fn opening_limit(file: &[u8], header: Header) -> usize
         return file.len();
     }
     header.frame_start
-}
-
-fn either(a: bool, b: bool) -> bool
-    ensures { λ r. ⌜ r ≡ (a || b) ⌝ }
-{
-    if a {
-        return true;
-    }
-    b
 }
 
 // Whether a frame's count lacks bytes before the file's end. No sum is made that could wrap.
