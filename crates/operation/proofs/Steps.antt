@@ -11,7 +11,7 @@ use Rattle.format.specs.Checked.{Checked, ok, refused, mapped, _>>=_}
 use Rattle.format.specs.Operation.{Setting, Item, itemAt}
 use Rattle.format.specs.Stream.{operationsFrom}
 use Rattle.format.specs.Writes.{targetNumber, anySi22}
-use Rattle.operation.specs.Walk.{stepped, walkedWith}
+use Rattle.operation.specs.Walk.{stepped, walkedWith, walked}
 
 or-assoc : (a b c : Bool) → (a || (b || c)) ≡ ((a || b) || c)
 or-assoc true b c = refl
@@ -47,3 +47,11 @@ pub walk-end : (seen : Bool) (setting : Setting) (file : List ℕ) (limit at : �
 unfolding operationsFrom anySi22
 walk-end true setting file limit at = refl
 walk-end false setting file limit at = refl
+
+-- operations behind others, one of which may have had target 11
+pub walked-with : (seen : Bool) (setting : Setting) (file : List ℕ) (limit count at : ℕ) → walkedWith seen setting file limit count at ≡ mapped {B = ℕ × Bool} (λ (found : ℕ × Bool). (found .0, seen || found .1)) (walked setting file limit count at)
+walked-with seen setting file limit count at = go (operationsFrom setting file limit count at)
+  where
+    go : (r : Checked (List Operation × ℕ)) → mapped {B = ℕ × Bool} (λ (found : List Operation × ℕ). (found .1, seen || anySi22 (found .0))) r ≡ mapped {B = ℕ × Bool} (λ (found : ℕ × Bool). (found .0, seen || found .1)) (mapped {B = ℕ × Bool} (λ (found : List Operation × ℕ). (found .1, anySi22 (found .0))) r)
+    go (ok found) = refl
+    go (refused number place) = refl

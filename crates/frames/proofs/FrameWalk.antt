@@ -13,12 +13,12 @@ use Rattle.format.specs.Checked.{Checked, ok, refused, refuse, mapped, _>>=_, _
 use Rattle.format.specs.Operation.{Setting}
 use Rattle.format.specs.Stream.{operationsFrom, framesFrom}
 use Rattle.format.specs.Writes.{anySi22, anyFrameSi22}
-use Rattle.operation.specs.Walk.{walkedWith}
-use Rattle.parts.specs.Walk.{operationsSaid, framesSaid}
+use Rattle.operation.specs.Walk.{walked}
+use Rattle.frames.specs.Frames.{framesSaid}
 
 -- one frame, then the others
 pub frames-step : (setting : Setting) (file : List ℕ) (left at : ℕ) (si22 : Bool) → 0 < left
-    → framesSaid setting file left at si22 ≡ (refuse 14 at (ltb (length file) (at + 2)) >> (operationsSaid setting file (length file) (be 2 file at) (at + 2) >>= λ (frame : ℕ × Bool). framesSaid setting file (left - 1) (frame .0) (si22 || frame .1)))
+    → framesSaid setting file left at si22 ≡ (refuse 14 at (ltb (length file) (at + 2)) >> (walked setting file (length file) (be 2 file at) (at + 2) >>= λ (frame : ℕ × Bool). framesSaid setting file (left - 1) (frame .0) (si22 || frame .1)))
 unfolding framesFrom anyFrameSi22
 frames-step setting file zero at si22 h = absurd (not-suc-le-zero h)
 frames-step setting file (suc left) at si22 h =
@@ -38,11 +38,3 @@ frames-step setting file (suc left) at si22 h =
 pub frames-end : (setting : Setting) (file : List ℕ) (at : ℕ) (si22 : Bool) → framesSaid setting file 0 at si22 ≡ ok (at, si22)
 unfolding framesFrom anyFrameSi22
 frames-end setting file at si22 = rw or-false
-
--- operations behind others, one of which may have had target 11
-pub walked-with : (seen : Bool) (setting : Setting) (file : List ℕ) (limit count at : ℕ) → walkedWith seen setting file limit count at ≡ mapped {B = ℕ × Bool} (λ (found : ℕ × Bool). (found .0, seen || found .1)) (operationsSaid setting file limit count at)
-walked-with seen setting file limit count at = go (operationsFrom setting file limit count at)
-  where
-    go : (r : Checked (List Operation × ℕ)) → mapped {B = ℕ × Bool} (λ (found : List Operation × ℕ). (found .1, seen || anySi22 (found .0))) r ≡ mapped {B = ℕ × Bool} (λ (found : ℕ × Bool). (found .0, seen || found .1)) (mapped {B = ℕ × Bool} (λ (found : List Operation × ℕ). (found .1, anySi22 (found .0))) r)
-    go (ok found) = refl
-    go (refused number place) = refl

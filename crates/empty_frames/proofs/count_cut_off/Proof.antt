@@ -1,12 +1,12 @@
--- `parts::count_cut_off` meets its contract. Assumes nothing.
+-- `empty_frames::count_cut_off` meets its contract. Assumes nothing.
 use borrow.Author.Needs.{needs}
 use native.Mathlib.Omega.{arith}
 use Prim.Native.Nat.{_+_}
 use mathlib.Core.Path.{sym}
 use borrow.Author.Tests.{lt-ltb, le-ltb}
 use lib.ListN.{length}
-use Rattle.parts.proofs.count_cut_off.Statement.{statement}
-use Rattle.parts.proofs.count_cut_off.Tie as tie
+use Rattle.empty_frames.proofs.count_cut_off.Statement.{statement}
+use Rattle.empty_frames.proofs.count_cut_off.Tie as tie
 
 returns : tie.Need-returns
 returns c = sym (lt-ltb (length (c .before .args .file .now)) (c .before .args .at + 2) (omega arith))

@@ -1,8 +1,8 @@
--- `parts::opening_limit` meets its contract. Assumes nothing.
+-- `opening::opening_limit` meets its contract. Assumes nothing.
 use borrow.Author.Tests.{eq-eqb, ne-eqb}
 use Rattle.format.specs.Stream.{openingLimit}
-use Rattle.parts.proofs.opening_limit.Statement.{statement}
-use Rattle.parts.proofs.opening_limit.Tie as tie
+use Rattle.opening.proofs.opening_limit.Statement.{statement}
+use Rattle.opening.proofs.opening_limit.Tie as tie
 
 returns : tie.Need-returns
 unfolding openingLimit

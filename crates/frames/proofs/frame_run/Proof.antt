@@ -1,10 +1,10 @@
--- `parts::frame_run` meets its contract. Assumes nothing.
+-- `frames::frame_run` meets its contract. Assumes nothing.
 use borrow.Author.Needs.{needs}
 use mathlib.Core.Path.{sym}
 use lib.ListN.{length}
 use Rattle.quick.proofs.Ran.{quick-none}
-use Rattle.parts.proofs.frame_run.Statement.{statement}
-use Rattle.parts.proofs.frame_run.Tie as tie
+use Rattle.frames.proofs.frame_run.Statement.{statement}
+use Rattle.frames.proofs.frame_run.Tie as tie
 
 returns : tie.Need-returns
 returns c =

@@ -1,4 +1,4 @@
--- `parts::check_frames` meets its contract: the frames that are left decide. Assumes nothing.
+-- `frames::check_frames` meets its contract: the frames that are left decide. Assumes nothing.
 use borrow.Author.Needs.{needs}
 use native.Mathlib.Omega.{arith}
 use borrow.Author.Tests.{ltb-false}
@@ -13,15 +13,15 @@ use Rattle.format.specs.Card.{cardsOf}
 use Rattle.format.specs.Checked.{refuse, mapped, _>>=_, _>>_}
 use Rattle.format.specs.Operation.{settingOf}
 use Rattle.operation.specs.Answer.{walkedOf}
-use Rattle.operation.specs.Walk.{walkedWith}
-use Rattle.operation.proofs.Steps.{walk-end}
+use Rattle.operation.specs.Walk.{walked, walkedWith}
+use Rattle.operation.proofs.Steps.{walk-end, walked-with}
 use Rattle.quick.proofs.Ran.{quick-ran}
-use Rattle.parts.specs.declared.FramesLeft.{FramesLeft}
-use Rattle.parts.specs.Walk.{operationsSaid, framesSaid}
-use Rattle.parts.proofs.Empty.{Skipped, skip}
-use Rattle.parts.proofs.FrameWalk.{frames-step, frames-end, walked-with}
-use Rattle.parts.proofs.check_frames.Statement.{statement}
-use Rattle.parts.proofs.check_frames.Tie as tie
+use Rattle.empty_frames.specs.declared.FramesLeft.{FramesLeft}
+use Rattle.frames.specs.Frames.{framesSaid}
+use Rattle.frames.proofs.Empty.{Skipped, skip}
+use Rattle.frames.proofs.FrameWalk.{frames-step, frames-end}
+use Rattle.frames.proofs.check_frames.Statement.{statement}
+use Rattle.frames.proofs.check_frames.Tie as tie
 
 abbrev Inv-loop : tie.InvT-loop
 Inv-loop file header cards limits starts ends kinds si22 version pools directory at₀ left₀ seen₀ at left seen =
@@ -60,7 +60,7 @@ first : (k : tie.After-skip-empty Inv-loop μ-loop)
     let setting = settingOf (s .file .now) (s .header) (s .cards) in
     let next = k .skip-empty .result in
     framesSaid setting (s .file .now) (s .header .«frame_count») (s .header .«frame_start») (s .si22)
-    ≡ (refuse 14 (next .at) (ltb (length (s .file .now)) (next .at + 2)) >> (operationsSaid setting (s .file .now) (length (s .file .now)) (be 2 (s .file .now) (next .at)) (next .at + 2) >>= λ (frame : ℕ × Bool). framesSaid setting (s .file .now) (next .left - 1) (frame .0) (l .loop .seen || frame .1)))
+    ≡ (refuse 14 (next .at) (ltb (length (s .file .now)) (next .at + 2)) >> (walked setting (s .file .now) (length (s .file .now)) (be 2 (s .file .now) (next .at)) (next .at + 2) >>= λ (frame : ℕ × Bool). framesSaid setting (s .file .now) (next .left - 1) (frame .0) (l .loop .seen || frame .1)))
 first k =
     let l = k .before .before in
     let s = l .before .before .args in

@@ -1,4 +1,4 @@
--- `parts::check_opening` meets its contract. Assumes nothing.
+-- `opening::check_opening` meets its contract. Assumes nothing.
 use borrow.Author.Needs.{needs}
 use Prim.Native.Nat.{ℕ}
 use mathlib.Core.Path.{_≡_}
@@ -9,10 +9,10 @@ use Rattle.format.specs.Operation.{settingOf}
 use Rattle.format.specs.Stream.{openingLimit}
 use Rattle.operation.specs.Answer.{walkedOf}
 use Rattle.quick.proofs.Ran.{quick-ran}
-use Rattle.parts.specs.Walk.{operationsSaid}
-use Rattle.parts.proofs.FrameWalk.{walked-with}
-use Rattle.parts.proofs.check_opening.Statement.{statement}
-use Rattle.parts.proofs.check_opening.Tie as tie
+use Rattle.operation.specs.Walk.{walked}
+use Rattle.operation.proofs.Steps.{walked-with}
+use Rattle.opening.proofs.check_opening.Statement.{statement}
+use Rattle.opening.proofs.check_opening.Tie as tie
 
 opening-limit-requires : tie.Need-opening-limit-requires
 opening-limit-requires c κs = search needs
@@ -30,7 +30,7 @@ check-operations-requires c κs = search needs
 whole : (c : tie.After-check-operations)
     → let q = c .before in
     let a = q .before .before .before .before .args in
-    operationsSaid (settingOf (a .file .now) (a .header) (a .cards)) (a .file .now) (openingLimit (a .header) (a .file .now)) (a .header .«initial_count») (a .header .«initial_start»)
+    walked (settingOf (a .file .now) (a .header) (a .cards)) (a .file .now) (openingLimit (a .header) (a .file .now)) (a .header .«initial_count») (a .header .«initial_start»)
     ≡ mapped {B = ℕ × Bool} (λ (found : ℕ × Bool). (found .0, q .quick-run .result .si22 || found .1)) (walkedOf (c .check-operations .result))
 whole c =
     let q = c .before in

@@ -1,4 +1,4 @@
--- `parts::skip_empty` meets its contract: the frames that are left decide. Assumes nothing.
+-- `empty_frames::skip_empty` meets its contract: the frames that are left decide. Assumes nothing.
 use borrow.Author.Needs.{needs}
 use native.Mathlib.Omega.{arith}
 use borrow.Author.Tests.{ltb-false, ne-eqb}
@@ -6,10 +6,10 @@ use Prim.Native.Nat.{_+_}
 use mathlib.Core.Path.{_≡_, refl, sym, _∙_}
 use mathlib.Core.Bool.{or-true}
 use lib.ListN.{length}
-use Rattle.parts.specs.Walk.{skipped}
-use Rattle.parts.proofs.Empty.{skip-step, skip-stops, skip-last}
-use Rattle.parts.proofs.skip_empty.Statement.{statement}
-use Rattle.parts.proofs.skip_empty.Tie as tie
+use Rattle.empty_frames.specs.Skipped.{skipped}
+use Rattle.empty_frames.proofs.Steps.{skip-step, skip-stops, skip-last}
+use Rattle.empty_frames.proofs.skip_empty.Statement.{statement}
+use Rattle.empty_frames.proofs.skip_empty.Tie as tie
 
 abbrev Inv-loop : tie.InvT-loop
 Inv-loop file count start at₀ left₀ at left = skipped file count start ≡ skipped file left at

@@ -1,11 +1,11 @@
--- Passing over empty frames.
+-- Passing over empty frames: the frames that are left decide.
 use Prim.Native.Nat.{ℕ, zero, suc, _+_, _-_, _≤_, _<_}
 use mathlib.Core.Path.{_≡_, refl, _∙_}
 use mathlib.Core.Bool.{Bool, true, false, not, _||_, or-false}
 use mathlib.Core.List.{List}
 use native.Mathlib.Nat.{not-suc-le-zero}
 use native.Mathlib.Omega.{arith}
-use borrow.Author.Tests.{eqb-true, not-false, eq-eqb, ne-eqb}
+use borrow.Author.Tests.{eqb-true, not-false}
 use lib.Dec.{eqb, ltb}
 use lib.ListN.{length}
 use Rattle.format.specs.Bytes.{be}
@@ -13,28 +13,9 @@ use Rattle.format.specs.Operation.{Setting}
 use Rattle.format.specs.Stream.{operationsFrom}
 use Rattle.format.specs.Writes.{anySi22}
 use Rattle.format.proofs.Checks as checks
-use Rattle.parts.specs.Walk.{framesSaid, skipped}
-use Rattle.parts.proofs.FrameWalk.{frames-step}
-
--- the last frame, and one that is cut off or not empty, stay; an empty one is passed
-pub skip-step : (file : List ℕ) (left at : ℕ) → 1 < left → ltb (length file) (at + 2) ≡ false → be 2 file at ≡ 0 → skipped file left at ≡ skipped file (left - 1) (at + 2)
-unfolding skipped
-skip-step file zero at h cut none = absurd (not-suc-le-zero h)
-skip-step file (suc n) at h cut none =
-    let less : suc n - 1 ≡ n = omega arith in
-    rw (less, ne-eqb n 0 (λ e. omega arith), cut, none)
-
-pub skip-stops : (file : List ℕ) (left at : ℕ) → (eqb (left - 1) 0 || ltb (length file) (at + 2) || not (eqb (be 2 file at) 0)) ≡ true → 0 < left → skipped file left at ≡ record { at = at; left = left }
-unfolding skipped
-skip-stops file zero at stays h = absurd (not-suc-le-zero h)
-skip-stops file (suc n) at stays h =
-    let less : suc n - 1 ≡ n = omega arith in
-    rw (rw less at stays)
-
-pub skip-last : (file : List ℕ) (left at : ℕ) → left ≤ 1 → skipped file left at ≡ record { at = at; left = left }
-unfolding skipped
-skip-last file zero at h = refl
-skip-last file (suc n) at h = rw (eq-eqb n 0 (omega arith))
+use Rattle.empty_frames.specs.Skipped.{skipped}
+use Rattle.frames.specs.Frames.{framesSaid}
+use Rattle.frames.proofs.FrameWalk.{frames-step}
 
 -- an empty frame, then the others
 empty-step : (setting : Setting) (file : List ℕ) (n at : ℕ) (seen : Bool) → ltb (length file) (at + 2) ≡ false → be 2 file at ≡ 0 → framesSaid setting file (suc n) at seen ≡ framesSaid setting file n (at + 2) seen
