@@ -3,7 +3,7 @@ use format::Refusal;
 use format::Rule;
 use format::Target;
 use format::Verdict;
-use pools::read_pool;
+use pool_entry::read_pool;
 use rules::copy_wrong;
 ghost use mathlib.Core.Path.{_≡_};
 ghost use Rattle.format.specs.Pool.{poolAt};

@@ -19,7 +19,8 @@ use Rattle.format.specs.Stream.{Stream, read}
 use Rattle.format.proofs.Accepted.{accepted}
 use Rattle.format.proofs.Checks.{ok-is}
 use Rattle.format.proofs.Steps.{pool-step}
-use Rattle.pool_lookup.specs.Found.{entryOf, poolFound}
+use Rattle.pool_entry.specs.Entry.{entryOf}
+use Rattle.pool_lookup.specs.Found.{poolFound}
 
 -- the payload of an entry
 abbrev pub payloadOf : List ℕ → Pool → Payload

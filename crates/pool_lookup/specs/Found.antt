@@ -1,24 +1,18 @@
 -- A pool that is looked up, and what the answer for its kind says.
 use Prim.Native.Nat.{ℕ}
-use mathlib.Core.Bool.{cond}
 use mathlib.Core.List.{List}
-use lib.Dec.{ltb}
-use Rattle.format.specs.declared.header.Header.{Header}
 use Rattle.format.specs.declared.pool.Pool.{Pool}
 use Rattle.format.specs.Checked.{Checked, ok, mapped}
 use Rattle.format.specs.Header.{headerOf}
-use Rattle.format.specs.Pool.{poolAt}
 use Rattle.format.specs.Rule.{refusal}
 use Rattle.format.specs.Stream.{Stream, read}
+use Rattle.pool_entry.specs.Entry.{entryOf}
 use Rattle.pool_lookup.specs.declared.PoolFound.{PoolFound}
 use Rattle.pool_lookup.specs.declared.PoolFound.the-variants as found
 use Rattle.pool_lookup.specs.declared.PoolKind.{PoolKind}
 use Rattle.pool_lookup.specs.declared.PoolKind.the-variants as kind
 
--- the entry of a pool, all 0 for an unknown pool
-unfoldable pub entryOf : List ℕ → Header → (id : ℕ) → Pool
-entryOf file header id = cond (ltb id (header .«pool_count»)) (poolAt file (header .«directory_offset») id) (record { kind = 0; size = 0; offset = 0 })
-
+-- the entry of a pool, or the refusal
 abbrev pub poolFoundOf : PoolFound → Checked Pool
 poolFoundOf (found.Entry pool) = ok pool
 poolFoundOf (found.Refused r) = refusal r

@@ -1,14 +1,13 @@
 // Looks up a pool of an accepted file.
 use file_check::FileAnswer;
 use file_check::check_file;
-use format::Header;
 use format::Pool;
 use format::Refusal;
-use pools::read_pool;
+use pool_entry::entry_of;
+use pool_entry::part;
 ghost use mathlib.Core.Path.{_≡_};
-ghost use Rattle.format.specs.Bytes as bytes;
 ghost use Rattle.format.specs.Lookup.{poolKind, poolPayload};
-ghost use Rattle.pool_lookup.specs.Found.{entryOf, poolFoundOf, poolFound, poolKindOf};
+ghost use Rattle.pool_lookup.specs.Found.{poolFoundOf, poolFound, poolKindOf};
 
 // The entry of a pool, all 0 for an unknown pool; or the refusal of the file.
 pub enum PoolFound {
@@ -20,19 +19,6 @@ pub enum PoolFound {
 pub enum PoolKind {
     Kind(u8),
     Refused(Refusal),
-}
-
-fn entry_of(file: &[u8], header: Header, id: u16) -> Pool
-    ensures { λ r. ⌜ r ≡ entryOf (now (file .entry)) header id ⌝ }
-{
-    if (id as u32) < header.pool_count {
-        return read_pool(file, header.directory_offset, id as u32);
-    }
-    Pool {
-        kind: 0,
-        size: 0,
-        offset: 0,
-    }
 }
 
 // The entry of a pool of an accepted file.
@@ -48,19 +34,6 @@ pub fn find_pool(file: &[u8], id: u16) -> PoolFound
         } => PoolFound::Entry(entry_of(file, header, id)),
         FileAnswer::Refused(refusal) => PoolFound::Refused(refusal),
     }
-}
-
-// So many bytes of a file from a place, as far as they are there.
-fn part(file: &[u8], place: usize, size: usize) -> &[u8]
-    ensures { λ r. ⌜ now r ≡ bytes.part (now (file .entry)) place size ⌝ }
-{
-    if file.len() < place {
-        return &file[0..0];
-    }
-    if file.len() - place < size {
-        return &file[place..];
-    }
-    &file[place..place + size]
 }
 
 // The kind of a pool.

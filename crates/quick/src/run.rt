@@ -1,10 +1,10 @@
 // So many items in a row, as far as each is passed.
 use big_endian::byte_at;
 use big_endian::window;
-use fields::address_width;
 use limit_tables::TARGETS;
 use quick_operations::quick_operation;
 use quick_rules::quick_record;
+use widths::address_width;
 ghost use mathlib.Core.Path.{_≡_};
 ghost use mathlib.Core.Bool.{_||_};
 ghost use Prim.Native.Nat.{_≤_, min};

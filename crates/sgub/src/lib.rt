@@ -3,7 +3,6 @@ mod play;
 mod repack;
 
 use file_check::FileAnswer;
-use pool_lookup::PoolFound;
 use format::CardRequirement;
 use format::CardTable;
 use format::Header;
@@ -11,6 +10,7 @@ use format::Pool;
 pub use play::SgubStarted;
 pub use play::sgub_advance_vsync;
 pub use play::sgub_start;
+use pool_lookup::PoolFound;
 pub use repack::SgubRepacked;
 pub use repack::sgub_repack;
 ghost use mathlib.Core.Path.{_≡_};

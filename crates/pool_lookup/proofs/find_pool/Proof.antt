@@ -2,7 +2,7 @@
 use mathlib.Core.Path.{ap}
 use Rattle.format.specs.declared.header.Header.{Header}
 use Rattle.format.specs.Checked.{ok}
-use Rattle.pool_lookup.specs.Found.{entryOf}
+use Rattle.pool_entry.specs.Entry.{entryOf}
 use Rattle.file_check.proofs.Answers.{accepted-as, refused-as}
 use borrow.Author.Needs.{needs}
 use Rattle.pool_lookup.proofs.find_pool.Statement.{statement}
