@@ -1,9 +1,11 @@
-// The fields of operations.
+// The fields of operations. What the crate widths says of addresses and sizes is passed on.
 use big_endian::byte_at;
 use big_endian::read_u16;
 use big_endian::read_u32;
 use format::Operation;
-use widths::read_address;
+pub use widths::address_width;
+pub use widths::operation_size;
+pub use widths::read_address;
 ghost use mathlib.Core.Path.{_≡_};
 ghost use Prim.Native.Nat.{_+_, _^_, _≤_, _<_};
 ghost use Rattle.format.specs.Operation.{sizeOf, fieldsAt};

@@ -4,6 +4,7 @@ use mathlib.Core.Bool.{Bool, true, false, cond}
 use mathlib.Core.List.{List, []}
 use mathlib.Core.Path.{_≡_, refl, sym, ap, _∙_}
 use lib.ListN.{length}
+use Rattle.format.specs.State.{partOf}
 use Rattle.format.specs.declared.operation.WriteRecord.{WriteRecord}
 use Rattle.format.specs.declared.player.StreamPlayer.{StreamPlayer}
 use Rattle.format.specs.Checked.{Checked, ok, refused, mapped, _>>_}
@@ -20,12 +21,12 @@ use Rattle.player.specs.Vsync.{vsyncOf, stateAfter}
 
 -- what a plan tells
 abbrev pub toldOf : CallPlan → Vsync
-toldOf plan = record { refused = plan .refused; count = plan .count; complete = plan .complete }
+toldOf plan = record { number = plan .number; count = plan .count; complete = plan .complete }
 
 -- whatever a call refuses is 25, at place 0
 pub refused-25 : (state : StreamPlayer) (file : List ℕ) (room number place : ℕ) → call state file room ≡ refused number place → (number ≡ 25) × (place ≡ 0)
 unfolding call
-refused-25 state file room number place e = either (state .progress .finished) (belongs state file >> play state file room (state .progress) (state .progress .part)) e
+refused-25 state file room number place e = either (state .progress .finished) (belongs state file >> play state file room (state .progress) (partOf (state .progress .part))) e
   where
     as-25 : (x : Checked Played) → as25 x ≡ refused number place → (number ≡ 25) × (place ≡ 0)
     as-25 (ok a) e = absurd (refused-not-ok (sym e))
@@ -47,11 +48,11 @@ module _ (state : StreamPlayer) (file : List ℕ) (run : List WriteRecord) where
   plan-is = ap (planTold state) (planned-is state file (length run))
 
   pub told-is : toldOf plan ≡ vsyncOf answer
-  told-is = ap toldOf plan-is ∙ go answer
+  told-is = ap toldOf plan-is ∙ go answer refl
     where
-      go : (a : Checked Played) → toldOf (planTold state (mapped planOf a)) ≡ vsyncOf a
-      go (ok a) = refl
-      go (refused number place) = refl
+      go : (a : Checked Played) → call state file (length run) ≡ a → toldOf (planTold state (mapped planOf a)) ≡ vsyncOf a
+      go (ok a) e = refl
+      go (refused number place) e = rw (refused-25 state file (length run) number place e .0)
 
   pub state-is : plan .next ≡ stateAfter state answer
   state-is = ap (λ (p : CallPlan). p .next) plan-is ∙ go answer

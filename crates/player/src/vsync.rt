@@ -8,9 +8,10 @@ ghost use lib.ListN.{length};
 ghost use Rattle.format.specs.Player.{call, runAfter};
 ghost use Rattle.player.specs.Vsync.{vsyncOf, stateAfter};
 
-// What a call tells: refused, which is the sheet's 25; or how many records it stored, and whether the vsync is complete.
+// What a call tells: refusal 25 or 0, how many records it stored, and whether the vsync is complete.
+#[repr(C)]
 pub struct Vsync {
-    pub refused: bool,
+    pub number: u32,
     pub count: usize,
     pub complete: bool,
 }
@@ -26,7 +27,7 @@ pub fn advance_vsync(state: &mut StreamPlayer, file: &[u8], run: &mut [WriteReco
     store_call(run, file, before, plan.count);
     *state = plan.next;
     Vsync {
-        refused: plan.refused,
+        number: plan.number,
         count: plan.count,
         complete: plan.complete,
     }
