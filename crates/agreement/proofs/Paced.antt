@@ -24,8 +24,8 @@ use Rattle.format.specs.Pace.{countOf, writeAt, paced}
 use Rattle.format.specs.Player.{settingIn, cardUsed, poolUsed, poolsUsed, itemUsed, bytesAt, wavesBy, placed, Gathered, gathered}
 use Rattle.format.specs.Pool.{poolAt}
 use Rattle.format.specs.Target.{slotTarget, slotOf, targetOf, outside, kindFor}
-use Rattle.format.specs.declared.target.Target.{Target}
-use Rattle.format.specs.declared.target.Target.the-variants.{Core, Pcm, Bank, Slot, Si22, Missing}
+use Rattle.targets.specs.declared.Target.{Target}
+use Rattle.targets.specs.declared.Target.the-variants.{Core, Pcm, Bank, Slot, Si22, Missing}
 use Rattle.format.specs.Writes.{write, upward, writesWith, targetNumber}
 use Rattle.format.proofs.Checks.{through, passed-test, passed-last, passed-check, ok-is}
 use Rattle.format.proofs.Rules.{passes-inside, copy-allowed}

@@ -15,7 +15,7 @@ use Rattle.format.specs.declared.operation.Operation.{Operation}
 use Rattle.format.specs.declared.operation.Operation.the-variants.{Write, Fill, Copy}
 use Rattle.format.specs.declared.pool.Pool.{Pool}
 use Rattle.format.specs.declared.player.Progress.{Progress}
-use Rattle.format.specs.declared.target.Target.{Target}
+use Rattle.targets.specs.declared.Target.{Target}
 use Rattle.format.specs.Bytes.{byte, part}
 use Rattle.format.specs.Card.{cardsOf, cardsFrom}
 use Rattle.format.specs.Checked.{ok}

@@ -1,23 +1,23 @@
-// Numbers of a file, highest byte first, at a width of one to four bytes. Past the file's end every byte reads as 0, and a number
-// that does not fit into a buffer is not written, so that no function asks anything of its place.
+// Numbers of a file, highest byte first, at a width of one to four bytes. Past the file's end every byte reads as 0, so that no function
+// asks anything of its place. The functions that write numbers are the crate puts', passed on here.
+use loads::load_2;
+use loads::load_3;
+use loads::load_4;
+use loads::wide;
 ghost use mathlib.Core.Path.{_≡_};
 ghost use Prim.Native.Nat.{_+_, _*_, _^_, _≤_, _<_};
 ghost use lib.ListN.{length};
-ghost use Rattle.format.specs.Bytes.{byte, be, bytesOf, part};
-ghost use Rattle.big_endian.specs.Put.{put};
+ghost use Rattle.format.specs.Bytes.{byte, be, part};
+pub use puts::put_u8;
+pub use puts::put_u16;
+pub use puts::put_u24;
+pub use puts::put_u32;
 
 // The byte at a place.
 pub fn byte_at(file: &[u8], place: usize) -> u8
     ensures { λ r. ⌜ r ≡ byte (now (file .entry)) place ⌝ }
 {
     if place < file.len() { file[place] } else { 0 }
-}
-
-// A byte as a number that sums of bytes are made of.
-fn wide(x: u8) -> u32
-    ensures { λ r. ⌜ (r ≡ x) × (r < 256) ⌝ }
-{
-    x as u32
 }
 
 // A number with one byte more at its end.
@@ -38,29 +38,6 @@ fn read_be(file: &[u8], at: usize, width: usize) -> u32
         value = joined(value, byte_at(file, at + i));
     }
     value
-}
-
-// The numbers in two, three and four bytes that are all there. Each is the one before with one byte more; together they compile to
-// one load.
-fn load_2(file: &[u8], at: usize) -> u32
-    requires { ⌜ at + 2 ≤ length (now file) ⌝ }
-    ensures { λ r. ⌜ (r ≡ be 2 (now (file .entry)) at) × (r < 256 ^ 2) ⌝ }
-{
-    wide(file[at]) * 256 + wide(file[at + 1])
-}
-
-fn load_3(file: &[u8], at: usize) -> u32
-    requires { ⌜ at + 3 ≤ length (now file) ⌝ }
-    ensures { λ r. ⌜ (r ≡ be 3 (now (file .entry)) at) × (r < 256 ^ 3) ⌝ }
-{
-    load_2(file, at) * 256 + wide(file[at + 2])
-}
-
-fn load_4(file: &[u8], at: usize) -> u32
-    requires { ⌜ at + 4 ≤ length (now file) ⌝ }
-    ensures { λ r. ⌜ r ≡ be 4 (now (file .entry)) at ⌝ }
-{
-    load_3(file, at) * 256 + wide(file[at + 3])
 }
 
 // The number in two bytes.
@@ -108,86 +85,4 @@ pub fn window(file: &[u8], at: usize) -> &[u8]
     ensures { λ r. ⌜ now r ≡ part (now (file .entry)) at 16 ⌝ }
 {
     &file[at..at + 16]
-}
-
-// The lowest one to four bytes of a number, stored where there is room for them. Each is the one before with one byte more; together
-// they compile to one store.
-fn store_1(buffer: &mut [u8], at: usize, value: u32)
-    requires { ⌜ at + 1 ≤ length (now buffer) ⌝ }
-    ensures { λ _. ⌜ now (buffer .exit) ≡ put (bytesOf 1 value) at (now (buffer .entry)) ⌝ }
-{
-    buffer[at] = (value % 256) as u8;
-}
-
-fn store_2(buffer: &mut [u8], at: usize, value: u32)
-    requires { ⌜ at + 2 ≤ length (now buffer) ⌝ }
-    ensures { λ _. ⌜ now (buffer .exit) ≡ put (bytesOf 2 value) at (now (buffer .entry)) ⌝ }
-{
-    store_1(buffer, at, value / 256);
-    buffer[at + 1] = (value % 256) as u8;
-}
-
-fn store_3(buffer: &mut [u8], at: usize, value: u32)
-    requires { ⌜ at + 3 ≤ length (now buffer) ⌝ }
-    ensures { λ _. ⌜ now (buffer .exit) ≡ put (bytesOf 3 value) at (now (buffer .entry)) ⌝ }
-{
-    store_2(buffer, at, value / 256);
-    buffer[at + 2] = (value % 256) as u8;
-}
-
-fn store_4(buffer: &mut [u8], at: usize, value: u32)
-    requires { ⌜ at + 4 ≤ length (now buffer) ⌝ }
-    ensures { λ _. ⌜ now (buffer .exit) ≡ put (bytesOf 4 value) at (now (buffer .entry)) ⌝ }
-{
-    store_3(buffer, at, value / 256);
-    buffer[at + 3] = (value % 256) as u8;
-}
-
-// A byte, written at a place.
-pub fn put_u8(buffer: &mut [u8], at: usize, value: u8)
-    ensures { λ _. ⌜ now (buffer .exit) ≡ put (bytesOf 1 value) at (now (buffer .entry)) ⌝ }
-{
-    if buffer.len() <= at {
-        return;
-    }
-    store_1(buffer, at, wide(value));
-}
-
-// A number in two bytes, written at a place.
-pub fn put_u16(buffer: &mut [u8], at: usize, value: u16)
-    ensures { λ _. ⌜ now (buffer .exit) ≡ put (bytesOf 2 value) at (now (buffer .entry)) ⌝ }
-{
-    if buffer.len() < at {
-        return;
-    }
-    if buffer.len() - at < 2 {
-        return;
-    }
-    store_2(buffer, at, value as u32);
-}
-
-// The lowest three bytes of a number, written at a place.
-pub fn put_u24(buffer: &mut [u8], at: usize, value: u32)
-    ensures { λ _. ⌜ now (buffer .exit) ≡ put (bytesOf 3 value) at (now (buffer .entry)) ⌝ }
-{
-    if buffer.len() < at {
-        return;
-    }
-    if buffer.len() - at < 3 {
-        return;
-    }
-    store_3(buffer, at, value);
-}
-
-// A number in four bytes, written at a place.
-pub fn put_u32(buffer: &mut [u8], at: usize, value: u32)
-    ensures { λ _. ⌜ now (buffer .exit) ≡ put (bytesOf 4 value) at (now (buffer .entry)) ⌝ }
-{
-    if buffer.len() < at {
-        return;
-    }
-    if buffer.len() - at < 4 {
-        return;
-    }
-    store_4(buffer, at, value);
 }

@@ -16,7 +16,7 @@ use Rattle.format.specs.Checked.{Checked, ok, refused, refuse, mapped, _>>=_, _
 use Rattle.format.specs.State.{noCard, tableOf}
 use Rattle.format.proofs.Steps.{card-fine, one-card-fine}
 use Rattle.cards.specs.Cards.{Reading, reading, cardPlace, cardsAfter}
-use Rattle.cards.proofs.Lists.{padded, padded-next}
+use Rattle.card_entry.proofs.Lists.{padded, padded-next}
 
 -- rule 7 at a card
 abbrev pub cardRefused : List ℕ → (i least : ℕ) → CardRequirement → Bool

@@ -19,7 +19,7 @@ use Rattle.format.proofs.Accepted.{Accepted, accepted}
 use Rattle.format.proofs.Checks.{ok-is, refused-not-ok}
 use Rattle.format.proofs.Compared.{version-read, reads-version}
 use Rattle.repack.proofs.Master.{IsMaster, is-master}
-use Rattle.images.proofs.Image.{played-length}
+use Rattle.image_store.proofs.Image.{played-length}
 use Rattle.compare.specs.Accepted.{masterDrawn, otherDrawn, agreeBy}
 use Rattle.compare.specs.Answer.{versionHeader}
 use Rattle.compare.proofs.Streams.{agree-is, master-image, other-image}

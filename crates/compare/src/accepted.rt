@@ -1,8 +1,8 @@
 // Two accepted files, a master and one of version 2, by their headers.
 use format::Header;
-use images::draw_master;
+use image_records::draw_master;
+use image_store::same_bytes;
 use images::draw_other;
-use images::same_bytes;
 use same::same_frames;
 use same::same_opening;
 ghost use mathlib.Core.Path.{_≡_};

@@ -1,5 +1,3 @@
-pub mod Rows
 pub mod Reading
 pub mod TableRow
-pub mod Pools
 pub mod Answers

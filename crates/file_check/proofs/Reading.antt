@@ -15,7 +15,7 @@ use Rattle.format.proofs.Checks.{passed-test, ok-is}
 use Rattle.agreement.proofs.Used.{table-cards}
 use Rattle.file_check.specs.Answer.{recordOf}
 use Rattle.file_check.specs.Walk.{behindHeader}
-use Rattle.file_check.proofs.Rows.{mapped-bind, mapped-then, bind-mapped, bind-bind, then-bind, bind-then, then-then}
+use Rattle.format.proofs.Rows.{mapped-bind, mapped-then, bind-mapped, bind-bind, then-bind, bind-then, then-then}
 
 -- the header that is found is the file's
 pub header-is : (file : List ℕ) (header : Header) → headerFrom file ≡ ok header → header ≡ headerOf file

@@ -1,5 +1,4 @@
 // The whole file: the rules 1 to 20.
-use crate::layout::check_layout;
 use cards::parse_v4_cards;
 use format::CardTable;
 use format::Header;
@@ -7,6 +6,7 @@ use format::Refusal;
 use format::Verdict;
 use header::HeaderRead;
 use header::read_header;
+use layout::check_layout;
 use parts::PartsRead;
 use parts::check_parts;
 use state::no_cards;

@@ -14,7 +14,7 @@ use denote.Laws.{Is}
 use denote.Struct.Declared as Declared
 use Rattle.format.specs.declared.card.CardRequirement.{CardRequirement}
 use Rattle.format.specs.declared.card.CardTable.{CardTable}
-use Rattle.format.specs.declared.target.Target.the-variants.{Slot, Missing}
+use Rattle.targets.specs.declared.Target.the-variants.{Slot, Missing}
 use Rattle.format.specs.Card.{cardsOf}
 use Rattle.format.specs.Target.{slotTarget}
 use Rattle.format.proofs.card.CardTable.{the-type}

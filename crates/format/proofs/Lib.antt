@@ -1,4 +1,6 @@
 pub mod Checks
+pub mod Rows
+pub mod As25
 pub mod Bytes
 pub mod Cards
 pub mod Decided

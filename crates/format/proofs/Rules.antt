@@ -10,7 +10,7 @@ use lib.ListN.{length}
 use Rattle.format.specs.declared.card.CardRequirement.{CardRequirement}
 use Rattle.format.specs.declared.operation.Operation.{Operation}
 use Rattle.format.specs.declared.pool.Pool.{Pool}
-use Rattle.format.specs.declared.target.Target.{Target}
+use Rattle.targets.specs.declared.Target.{Target}
 use Rattle.format.specs.Checked.{ok}
 use Rattle.format.specs.Limits.{Inside, Takes, FrameFits}
 use Rattle.format.specs.Operation.{copyWrong, copyRules}

@@ -8,7 +8,7 @@ use lib.Dec.{eqb, leb, ltb}
 use Rattle.format.specs.declared.card.CardRequirement.{CardRequirement}
 use Rattle.format.specs.declared.card.CardTable.{CardTable}
 use Rattle.format.specs.declared.pool.Pool.{Pool}
-use Rattle.format.specs.declared.target.Target.{Target}
+use Rattle.targets.specs.declared.Target.{Target}
 use Rattle.format.specs.declared.header.Header.{Header}
 use Rattle.format.specs.declared.operation.Operation.{Operation}
 use Rattle.format.specs.declared.operation.Operation.the-variants.{Write, Fill, Copy}

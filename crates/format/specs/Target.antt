@@ -1,15 +1,13 @@
--- "Each target owns its named limits."
-use Prim.Native.Nat.{ℕ, _+_, _-_}
-use mathlib.Core.Bool.{Bool, true, false, cond, _||_}
+-- What a target number stands for in a file. A target's own limits are the crate targets' definitions, passed on here.
+use Prim.Native.Nat.{ℕ}
+use mathlib.Core.Bool.{cond}
 use mathlib.Core.List.{List, [], _∷_}
 use lib.Dec.{eqb, leb, ltb}
 use Rattle.format.specs.declared.card.CardRequirement.{CardRequirement}
-use Rattle.format.specs.declared.target.Target.{Target}
-use Rattle.format.specs.declared.target.Target.the-variants.{Core, Pcm, Bank, Slot, Si22, Missing}
-
--- "slot = target − 3"
-abbrev pub slotOf : (target : ℕ) → ℕ
-slotOf target = target - 3
+use Rattle.targets.specs.declared.Target.the-variants.{Core, Pcm, Bank, Slot, Si22, Missing}
+pub use Rattle.targets.specs.declared.Target.{Target}
+pub use Rattle.targets.specs.Target.{slotOf, missing, writeLimit, bulkStart, bulkLength, kindFor}
+unfoldable pub use Rattle.targets.specs.Target.{outside}
 
 -- the target of a slot: its card's bulk range, or missing where "its slot has no card"
 unfoldable pub slotTarget : List CardRequirement → (slot : ℕ) → Target
@@ -24,53 +22,3 @@ targetOf version cards target =
     (cond (eqb target 2) Pcm
     (cond (eqb version 3) (cond (eqb target 3) Bank Missing)
     (cond (eqb version 4) (cond (leb target 10) (slotTarget cards (slotOf target)) (cond (eqb target 11) Si22 Missing)) Missing)))
-
--- "the target does not exist, or its slot has no card" (15)
-abbrev pub missing : Target → Bool
-missing Core = false
-missing Pcm = false
-missing Bank = false
-missing (Slot start size) = false
-missing Si22 = false
-missing Missing = true
-
--- the last address of a record or WRITE (16)
-abbrev pub writeLimit : Target → ℕ
-writeLimit Core = 0x8FF
-writeLimit Pcm = 0xFFFFF
-writeLimit Bank = 0x1FFFFFF
-writeLimit (Slot start size) = 0x1FFFFFF
-writeLimit Si22 = 0x3F
-writeLimit Missing = 0
-
--- the range of FILL and COPY: its first address, and how many there are. "0x7FF for cores, 0xFFFFF for PCM, 0x3FFFFF for version 3's
--- target 3, the card's bulk range in version 4 (none if its length is 0), never target 11"
-abbrev pub bulkStart : Target → ℕ
-bulkStart Core = 0
-bulkStart Pcm = 0
-bulkStart Bank = 0
-bulkStart (Slot start size) = start
-bulkStart Si22 = 0
-bulkStart Missing = 0
-
-abbrev pub bulkLength : Target → ℕ
-bulkLength Core = 0x800
-bulkLength Pcm = 0x100000
-bulkLength Bank = 0x400000
-bulkLength (Slot start size) = size
-bulkLength Si22 = 0
-bulkLength Missing = 0
-
--- "length 0 or a forbidden destination" (17)
-unfoldable pub outside : Target → (address size : ℕ) → Bool
-outside target address size =
-    eqb size 0 || ltb address (bulkStart target) || ltb (bulkStart target + bulkLength target) (address + size)
-
--- the kind of pool that a COPY to the target takes: "kind 1 only to cores, kind 2 only to PCM, kind 3 only to target 3 or 3 to 10"
-abbrev pub kindFor : Target → ℕ
-kindFor Core = 1
-kindFor Pcm = 2
-kindFor Bank = 3
-kindFor (Slot start size) = 3
-kindFor Si22 = 0
-kindFor Missing = 0

@@ -5,7 +5,6 @@ mod operation;
 mod player;
 mod pool;
 mod rule;
-mod target;
 
 pub use card::CardRequirement;
 pub use card::CardTable;
@@ -20,4 +19,4 @@ pub use pool::Pool;
 pub use rule::Refusal;
 pub use rule::Rule;
 pub use rule::Verdict;
-pub use target::Target;
+pub use targets::Target;

@@ -7,21 +7,11 @@ use native.Mathlib.Nat.{not-suc-le-zero}
 use native.Mathlib.Omega.{arith}
 use lib.Dec.{eqb}
 use Rattle.format.specs.declared.operation.Operation.{Operation}
-use Rattle.format.specs.declared.operation.Operation.the-variants.{Write, Fill, Copy}
 use Rattle.format.specs.Checked.{Checked, ok, refused, mapped, _>>=_}
-use Rattle.format.specs.Operation.{Setting, Item, allowed, itemAt}
+use Rattle.format.specs.Operation.{Setting, Item, itemAt}
 use Rattle.format.specs.Stream.{operationsFrom}
-use Rattle.format.specs.Target.{targetOf}
 use Rattle.format.specs.Writes.{targetNumber, anySi22}
-use Rattle.operation.specs.Rules.{allowedAt}
-use Rattle.operation.specs.Walk.{stepped, walkedWith}
-
--- the rules go by the target that the operation's number stands for
-pub allowed-at : (setting : Setting) (at : ℕ) (operation : Operation) → allowed setting at operation ≡ allowedAt (setting .version) (setting .pools) (setting .poolOf) at (targetOf (setting .version) (setting .cards) (targetNumber operation)) operation
-unfolding allowed
-allowed-at setting at (Write target address value) = refl
-allowed-at setting at (Fill target address size value) = refl
-allowed-at setting at (Copy target address id source size) = refl
+use Rattle.operation.specs.Walk.{stepped, walkedWith, walked}
 
 or-assoc : (a b c : Bool) → (a || (b || c)) ≡ ((a || b) || c)
 or-assoc true b c = refl
@@ -57,3 +47,11 @@ pub walk-end : (seen : Bool) (setting : Setting) (file : List ℕ) (limit at : �
 unfolding operationsFrom anySi22
 walk-end true setting file limit at = refl
 walk-end false setting file limit at = refl
+
+-- operations behind others, one of which may have had target 11
+pub walked-with : (seen : Bool) (setting : Setting) (file : List ℕ) (limit count at : ℕ) → walkedWith seen setting file limit count at ≡ mapped {B = ℕ × Bool} (λ (found : ℕ × Bool). (found .0, seen || found .1)) (walked setting file limit count at)
+walked-with seen setting file limit count at = go (operationsFrom setting file limit count at)
+  where
+    go : (r : Checked (List Operation × ℕ)) → mapped {B = ℕ × Bool} (λ (found : List Operation × ℕ). (found .1, seen || anySi22 (found .0))) r ≡ mapped {B = ℕ × Bool} (λ (found : ℕ × Bool). (found .0, seen || found .1)) (mapped {B = ℕ × Bool} (λ (found : List Operation × ℕ). (found .1, anySi22 (found .0))) r)
+    go (ok found) = refl
+    go (refused number place) = refl

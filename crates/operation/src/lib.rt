@@ -2,7 +2,7 @@
 mod item;
 mod walk;
 
-pub use item::OperationRead;
+pub use allowed::OperationRead;
 pub use item::read_item;
 pub use walk::Walked;
 pub use walk::check_operations;

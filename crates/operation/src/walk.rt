@@ -1,7 +1,7 @@
 // So many records or operations in a row.
-use crate::item::OperationRead;
 use crate::item::read_item;
-use crate::item::target_number;
+use allowed::OperationRead;
+use allowed::target_number;
 use format::CardTable;
 use format::Header;
 use format::Operation;

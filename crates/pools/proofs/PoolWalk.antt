@@ -12,7 +12,8 @@ use Rattle.format.specs.declared.pool.Pool.{Pool}
 use Rattle.format.specs.Checked.{Checked, ok, refused, refuse, mapped, _>>=_, _>>_}
 use Rattle.format.specs.Pool.{Payload, poolAt, poolWrong, poolsFrom}
 use Rattle.format.proofs.Checks.{passed-test, passed-last}
-use Rattle.pools.specs.Pools.{poolRules, poolsEnd}
+use Rattle.pool_rules.specs.Rules.{poolRules}
+use Rattle.pools.specs.Pools.{poolsEnd}
 
 -- one pool, then the others
 pub pools-step : (version : ℕ) (file : List ℕ) (directory count id start : ℕ) (pool : Pool) → pool ≡ poolAt file directory id → id < count

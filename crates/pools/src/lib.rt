@@ -1,103 +1,17 @@
 // Walks over the pools, with the sheet's rules 10 and 11.
-use big_endian::byte_at;
-use big_endian::read_u16;
-use big_endian::read_u32;
 use format::Header;
-use format::Pool;
 use format::Refusal;
-use format::Rule;
 use format::Verdict;
-use row::refuse;
-use row::then;
+pub use pool_entry::read_pool;
+use pool_rules::check_pool;
 ghost use mathlib.Core.Path.{_≡_};
-ghost use Prim.Native.Nat.{_+_, _*_, _^_, _<_};
-ghost use Rattle.format.specs.Pool.{poolAt, bankLimit, kindWrong, poolWrong};
-ghost use Rattle.format.specs.Rule.{verdictOf};
-ghost use Rattle.pools.specs.Pools.{poolsReadOf, poolRules, poolsEnd};
+ghost use Prim.Native.Nat.{_+_, _*_};
+ghost use Rattle.pools.specs.Pools.{poolsReadOf, poolsEnd};
 
 // The place behind the last payload, or a refusal.
 pub enum PoolsRead {
     End(usize),
     Refused(Refusal),
-}
-
-// How long a payload of kind 3 may be.
-fn bank_limit(version: u8) -> u32
-    ensures { λ r. ⌜ r ≡ bankLimit version ⌝ }
-{
-    if version == 4 {
-        return 0x2000000;
-    }
-    if version == 3 {
-        return 0x400000;
-    }
-    0
-}
-
-// Whether a kind does not exist or may not have a size.
-fn kind_wrong(version: u8, kind: u8, size: u32) -> bool
-    ensures { λ r. ⌜ r ≡ kindWrong version kind size ⌝ }
-{
-    if kind == 1 {
-        return size != 256;
-    }
-    if kind == 2 {
-        if size == 0 {
-            return true;
-        }
-        return 1048576 < size;
-    }
-    if kind == 3 {
-        if size == 0 {
-            return true;
-        }
-        return bank_limit(version) < size;
-    }
-    true
-}
-
-// The entry of a pool.
-pub fn read_pool(file: &[u8], directory: u32, id: u32) -> Pool
-    ensures { λ r. ⌜ r ≡ poolAt (now (file .entry)) directory id ⌝ }
-{
-    let at = directory as usize + id as usize * 16;
-    Pool {
-        kind: byte_at(file, at + 2),
-        size: read_u32(file, at + 4),
-        offset: read_u32(file, at + 12),
-    }
-}
-
-// Whether the entry of a pool at a place breaks a pool rule; its payload starts at `start`.
-fn pool_wrong(file: &[u8], version: u8, at: usize, id: u32, start: usize, pool: Pool) -> bool
-    requires { ⌜ at + 16 < 2 ^ 64 ⌝ }
-    ensures { λ r. ⌜ r ≡ poolWrong version (now (file .entry)) at id start pool ⌝ }
-{
-    if read_u16(file, at) as u32 != id {
-        return true;
-    }
-    if kind_wrong(version, pool.kind, pool.size) {
-        return true;
-    }
-    if byte_at(file, at + 3) != 0 {
-        return true;
-    }
-    if read_u32(file, at + 8) != pool.size {
-        return true;
-    }
-    pool.offset as usize != start
-}
-
-// The rules 10 and 11 for the pool whose entry stands at a place.
-fn check_pool(file: &[u8], version: u8, at: usize, id: u32, start: usize, pool: Pool) -> Verdict
-    requires { ⌜ (at + 16 < 2 ^ 64) × (start < 2 ^ 63) ⌝ }
-    ensures { λ r. ⌜ verdictOf r ≡ poolRules version (now (file .entry)) at id start pool ⌝ }
-{
-    let wrong = pool_wrong(file, version, at, id, start, pool);
-    let past = file.len() < start + pool.size as usize;
-    let entry = refuse(Rule::PoolEntry, at, wrong);
-    let payload = refuse(Rule::PoolPayload, at, past);
-    then(entry, payload)
 }
 
 // The pools of a file with its header. The payloads start behind the directory.

@@ -9,7 +9,7 @@ use borrow.Author.Tests.{ltb-true, ltb-false, leb-true, leb-false, eqb-true, le-
 use lib.Dec.{eqb, leb, ltb}
 use lib.ListN.{length, getD}
 use Rattle.format.specs.declared.card.CardRequirement.{CardRequirement}
-use Rattle.format.specs.declared.target.Target.{Target}
+use Rattle.targets.specs.declared.Target.{Target}
 use Rattle.format.specs.Bytes.{byte, be, part}
 use Rattle.format.specs.Checked.{ok}
 use Rattle.format.specs.Operation.{Setting, addressWidth, sizeOf, fieldsAt, writeRules, allowed, operationAt, recordAt, itemAt}
@@ -20,12 +20,12 @@ use Rattle.format.proofs.Bytes.{byte-part, be-part}
 use Rattle.format.proofs.Checks.{and-true}
 use Rattle.format.proofs.Sizes.{extras, size-is, width-range}
 use Rattle.operation.specs.Walk.{stepped}
-use Rattle.quick.specs.Limits.{writeEnd, bulkEnd, tabled, writeEnds, bulkStarts, bulkEnds, kindsBy}
-use Rattle.quick.specs.Quick.{plainWrite, quickRecord, outOfBulk, wholeWaves, poolFits, quickWrite, quickFill, quickCopy, quickOperation}
+use Rattle.limit_tables.specs.Limits.{writeEnd, bulkEnd, tabled, writeEnds, bulkStarts, bulkEnds, kindsBy}
+use Rattle.quick_rules.specs.Quick.{plainWrite, quickRecord, outOfBulk, wholeWaves, poolFits, quickWrite, quickFill, quickCopy, quickOperation}
 use Rattle.quick.specs.Run.{operationSize, hasSi22}
 use Rattle.quick.proofs.Passed.{write-passes, fill-passes, pool-right, copy-passes}
 use Rattle.quick.proofs.Runs.{Steps}
-use Rattle.quick.proofs.Tabled.{tabled-at}
+use Rattle.limit_tables.proofs.Tabled.{tabled-at}
 
 -- what a file's operations go by
 abbrev pub setting : (version : ℕ) → List CardRequirement → (pools directory : ℕ) → List ℕ → Setting

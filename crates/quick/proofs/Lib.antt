@@ -1,4 +1,3 @@
-pub mod Tabled
 pub mod Runs
 pub mod Passed
 pub mod Items

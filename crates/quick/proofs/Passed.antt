@@ -6,13 +6,13 @@ use native.Mathlib.Omega.{arith}
 use borrow.Author.Tests.{ltb-true, leb-false, eqb-true, not-true, le-ltb}
 use lib.Dec.{eqb, leb, ltb}
 use Rattle.format.specs.declared.pool.Pool.{Pool}
-use Rattle.format.specs.declared.target.Target.{Target}
+use Rattle.targets.specs.declared.Target.{Target}
 use Rattle.format.specs.Checked.{ok}
 use Rattle.format.specs.Operation.{copyWrong, writeRules, fillRules, copyRules}
 use Rattle.format.specs.Target.{missing, writeLimit, bulkStart, bulkLength, outside, kindFor}
 use Rattle.format.proofs.Checks.{or-false, and-true}
-use Rattle.quick.specs.Limits.{writeEnd, bulkEnd}
-use Rattle.quick.specs.Quick.{outOfBulk, wholeWaves}
+use Rattle.limit_tables.specs.Limits.{writeEnd, bulkEnd}
+use Rattle.quick_rules.specs.Quick.{outOfBulk, wholeWaves}
 
 -- an address before the end: the target is there, and its limit is not passed
 write-there : (target : Target) (address : ℕ) → ltb address (writeEnd target) ≡ true → (missing target ≡ false) × (ltb (writeLimit target) address ≡ false)

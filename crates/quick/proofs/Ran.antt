@@ -11,8 +11,8 @@ use Rattle.format.specs.Checked.{Checked}
 use Rattle.format.specs.Operation.{addressWidth}
 use Rattle.operation.specs.Walk.{walked, walkedWith}
 use Rattle.quick.specs.declared.run.QuickRun.{QuickRun}
-use Rattle.quick.specs.Limits.{LimitsOf, writeEnds, bulkStarts, bulkEnds, kindsBy}
-use Rattle.quick.specs.Quick.{quickRecord}
+use Rattle.limit_tables.specs.Limits.{LimitsOf, writeEnds, bulkStarts, bulkEnds, kindsBy}
+use Rattle.quick_rules.specs.Quick.{quickRecord}
 use Rattle.quick.specs.Run.{runFrom, operationSize, hasSi22, recordsRun, operationsRun, quickRun}
 use Rattle.quick.proofs.Items.{setting, record-step, operation-step}
 use Rattle.quick.proofs.Runs.{ran}

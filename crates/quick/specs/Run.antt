@@ -7,7 +7,7 @@ use lib.ListN.{length}
 use Rattle.format.specs.Bytes.{byte, part}
 use Rattle.format.specs.Operation.{addressWidth}
 use Rattle.quick.specs.declared.run.QuickRun.{QuickRun}
-use Rattle.quick.specs.Quick.{quickRecord, quickOperation}
+use Rattle.quick_rules.specs.Quick.{quickRecord, quickOperation}
 
 -- so many items, as far as each has a size by a test; `marks` says which have target 11
 unfoldable pub runFrom : (size : ℕ → ℕ) → (marks : ℕ → Bool) → (count at : ℕ) → Bool → QuickRun

@@ -1,10 +1,10 @@
 // So many items in a row, as far as each is passed.
-use crate::limits::TARGETS;
-use crate::operations::quick_operation;
-use crate::records::quick_record;
 use big_endian::byte_at;
 use big_endian::window;
-use fields::address_width;
+use limit_tables::TARGETS;
+use quick_operations::quick_operation;
+use quick_rules::quick_record;
+use widths::address_width;
 ghost use mathlib.Core.Path.{_≡_};
 ghost use mathlib.Core.Bool.{_||_};
 ghost use Prim.Native.Nat.{_≤_, min};
@@ -18,7 +18,8 @@ pub struct QuickRun {
     pub si22: bool,
 }
 
-fn either(a: bool, b: bool) -> bool
+// Whether one of two runs has target 11.
+pub fn either(a: bool, b: bool) -> bool
     ensures { λ r. ⌜ r ≡ (a || b) ⌝ }
 {
     if a {

@@ -11,7 +11,7 @@ use lib.ListN.{length, getD, length-append, length-map}
 use lib.Seq.{take-all, getD-append-add}
 use Rattle.format.specs.declared.operation.Operation.{Operation}
 use Rattle.format.specs.declared.operation.Operation.the-variants.{Write, Fill, Copy}
-use Rattle.format.specs.declared.target.Target.the-variants.{Core}
+use Rattle.targets.specs.declared.Target.the-variants.{Core}
 use Rattle.format.specs.Bytes.{part}
 use Rattle.format.specs.Compare.{sameFrames}
 use Rattle.format.specs.Limits.{Each, OperationFits, FrameFits}

@@ -7,8 +7,8 @@ use native.Mathlib.Omega.{arith}
 use borrow.Author.Tests.{ne-eqb, leb-true}
 use lib.Dec.{eqb, leb, ltb, lit<, lit≤}
 use Rattle.format.specs.declared.card.CardRequirement.{CardRequirement}
-use Rattle.format.specs.declared.target.Target.{Target}
-use Rattle.format.specs.declared.target.Target.the-variants.{Core, Pcm, Bank, Slot, Si22, Missing}
+use Rattle.targets.specs.declared.Target.{Target}
+use Rattle.targets.specs.declared.Target.the-variants.{Core, Pcm, Bank, Slot, Si22, Missing}
 use Rattle.format.specs.Limits.{CardsFit}
 use Rattle.format.specs.Operation.{addressWidth}
 use Rattle.format.specs.Pool.{kindWrong}

@@ -11,7 +11,7 @@ use lib.ListN.{length}
 use Rattle.format.specs.declared.card.CardRequirement.{CardRequirement}
 use Rattle.format.specs.declared.operation.Operation.{Operation}
 use Rattle.format.specs.declared.operation.Operation.the-variants.{Write, Fill, Copy}
-use Rattle.format.specs.declared.target.Target.the-variants.{Core, Pcm, Bank, Si22, Missing}
+use Rattle.targets.specs.declared.Target.the-variants.{Core, Pcm, Bank, Si22, Missing}
 use Rattle.format.specs.Bytes.{bytesOf, Field, u8, u, raw, u16, u32, bytesOfAll}
 use Rattle.format.specs.Limits.{Each, Bytes, OperationFits, FrameFits, CardsFit, PoolFits, Limits}
 use Rattle.format.specs.Operation.{addressWidth}

@@ -3,7 +3,6 @@ mod play;
 mod repack;
 
 use file_check::FileAnswer;
-use file_check::PoolFound;
 use format::CardRequirement;
 use format::CardTable;
 use format::Header;
@@ -11,12 +10,13 @@ use format::Pool;
 pub use play::SgubStarted;
 pub use play::sgub_advance_vsync;
 pub use play::sgub_start;
+use pool_lookup::PoolFound;
 pub use repack::SgubRepacked;
 pub use repack::sgub_repack;
 ghost use mathlib.Core.Path.{_≡_};
 ghost use Rattle.format.specs.Pool.{poolAt};
 ghost use Rattle.file_check.specs.Answer.{recorded};
-ghost use Rattle.file_check.specs.Found.{poolFound};
+ghost use Rattle.pool_lookup.specs.Found.{poolFound};
 ghost use Rattle.sgub.specs.Surface.{cardFields, entryFields, acceptedAs, verdictOn, cardOn, poolOn};
 
 // The verdict on a file. Where it is refused, all that follows the place is 0.
@@ -166,7 +166,7 @@ pub extern "C" fn sgub_card(file: &[u8], index: usize) -> SgubCard
 pub extern "C" fn sgub_pool(file: &[u8], id: u16) -> SgubPool
     ensures { λ r. ⌜ r ≡ poolOn (poolFound (now (file .entry)) id) ⌝ }
 {
-    match file_check::find_pool(file, id) {
+    match pool_lookup::find_pool(file, id) {
         PoolFound::Entry(pool) => SgubPool {
             number: 0,
             place: 0,

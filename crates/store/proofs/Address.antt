@@ -10,8 +10,8 @@ use Rattle.format.specs.declared.card.CardRequirement.{CardRequirement}
 use Rattle.format.specs.declared.operation.Operation.{Operation}
 use Rattle.format.specs.declared.operation.Operation.the-variants.{Write, Fill, Copy}
 use Rattle.format.specs.declared.player.StreamPlayer.{StreamPlayer}
-use Rattle.format.specs.declared.target.Target.{Target}
-use Rattle.format.specs.declared.target.Target.the-variants.{Core, Pcm, Bank, Slot, Si22, Missing}
+use Rattle.targets.specs.declared.Target.{Target}
+use Rattle.targets.specs.declared.Target.the-variants.{Core, Pcm, Bank, Slot, Si22, Missing}
 use Rattle.format.specs.Card.{oneCardWrong}
 use Rattle.format.specs.Checked.{ok}
 use Rattle.format.specs.Operation.{Setting, Item, writeRules, fillRules, allowed, itemAt}

@@ -2,8 +2,8 @@
 use big_endian::byte_at;
 use big_endian::read_u24;
 use big_endian::window;
-use fields::address_width;
-use fields::read_address;
+use widths::address_width;
+use widths::read_address;
 use format::WriteRecord;
 use plain_writes::plain_size;
 ghost use mathlib.Core.Path.{_≡_};

@@ -1,3 +1,2 @@
-pub mod As25
 pub mod Slots
 pub mod Same

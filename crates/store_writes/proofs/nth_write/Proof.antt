@@ -12,8 +12,8 @@ use Rattle.store_writes.proofs.nth_write.Lts as lts
 use Rattle.big_endian.proofs.byte_at.Reads as byte-at-reads
 use Rattle.big_endian.proofs.read_u24.Reads as read-u24-reads
 use Rattle.big_endian.proofs.window.Reads as window-reads
-use Rattle.fields.proofs.address_width.Reads as address-width-reads
-use Rattle.fields.proofs.read_address.Reads as read-address-reads
+use Rattle.widths.proofs.address_width.Reads as address-width-reads
+use Rattle.widths.proofs.read_address.Reads as read-address-reads
 use Rattle.plain_writes.proofs.plain_size.Reads as plain-size-reads
 
 plain-size-requires : tie.Need-plain-size-requires

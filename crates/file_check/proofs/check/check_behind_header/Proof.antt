@@ -2,7 +2,8 @@
 use mathlib.Core.Path.{sym, ap, _∙_}
 use Rattle.format.specs.Card.{cardsFrom}
 use Rattle.format.specs.Rule.{verdictOf}
-use Rattle.file_check.specs.Walk.{layoutFrom, behindTables}
+use Rattle.layout.specs.Layout.{layoutFrom}
+use Rattle.file_check.specs.Walk.{behindTables}
 use Rattle.file_check.proofs.Reading.{header-is, cards-place}
 use Rattle.file_check.proofs.TableRow.{tables-passed, tables-refused}
 use borrow.Author.Needs.{needs}

@@ -4,7 +4,7 @@ use native.Mathlib.Omega.{arith}
 use borrow.Author.Tests.{eq-eqb, ne-eqb}
 use mathlib.Core.Path.{_≡_, refl}
 use mathlib.Core.Bool.{false}
-use Rattle.quick.specs.Quick.{quickRecord}
+use Rattle.quick_rules.specs.Quick.{quickRecord}
 use Rattle.quick.specs.Run.{recordsRun}
 use Rattle.quick.proofs.Items.{record-whole}
 use Rattle.quick.proofs.Runs.{run-step, run-stops, run-ends}

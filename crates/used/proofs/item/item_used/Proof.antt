@@ -1,6 +1,6 @@
 -- `used::item::item_used` meets its contract. Assumes nothing.
 use borrow.Author.Needs.{needs}
-use Rattle.used.proofs.As25.{as25-bind, as25-then}
+use Rattle.format.proofs.As25.{as25-bind, as25-then}
 use Rattle.used.proofs.item.item_used.Statement.{statement}
 use Rattle.used.proofs.item.item_used.Tie as tie
 

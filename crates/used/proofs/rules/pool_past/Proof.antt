@@ -2,7 +2,7 @@
 use borrow.Author.Needs.{needs}
 use borrow.Author.Tests.{lt-ltb, le-ltb}
 use Rattle.format.specs.Player.{poolUsed}
-use Rattle.used.proofs.As25.{as25-refuse}
+use Rattle.format.proofs.As25.{as25-refuse}
 use Rattle.used.proofs.rules.pool_past.Statement.{statement}
 use Rattle.used.proofs.rules.pool_past.Tie as tie
 

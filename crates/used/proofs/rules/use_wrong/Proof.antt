@@ -1,7 +1,7 @@
 -- `used::rules::use_wrong` meets its contract. Assumes nothing.
 use borrow.Author.Needs.{needs}
 use Rattle.format.specs.Player.{cardUsed, poolsUsed}
-use Rattle.used.proofs.As25.{as25-refuse, refuse-last}
+use Rattle.format.proofs.As25.{as25-refuse, refuse-last}
 use Rattle.used.proofs.rules.use_wrong.Statement.{statement}
 use Rattle.used.proofs.rules.use_wrong.Tie as tie
 

@@ -1,0 +1,54 @@
+-- `card_rules::card_wrong` meets its contract. Assumes nothing.
+use native.Mathlib.Omega.{arith}
+use borrow.Author.Tests.{eq-eqb, ne-eqb, le-ltb, lt-ltb}
+use mathlib.Core.Bool.{and-false, or-true}
+use Rattle.card_rules.proofs.Zeros.{zeros-two}
+use Rattle.format.specs.Card.{cardWrong}
+use borrow.Author.Needs.{needs}
+use Rattle.card_rules.proofs.card_wrong.Statement.{statement}
+use Rattle.card_rules.proofs.card_wrong.Tie as tie
+
+returns : tie.Need-returns
+unfolding cardWrong
+returns c = simp (lt-ltb _ _ (c .if1 .taken))
+
+add-byte-at : tie.Need-add-byte-at
+add-byte-at c = search needs
+
+byte-at-requires : tie.Need-byte-at-requires
+byte-at-requires c κs = search needs
+
+returns-2 : tie.Need-returns-2
+unfolding cardWrong
+returns-2 c = simp (zeros-two (c .before .before .before .before .before .args .file .now) (c .before .before .before .before .before .args .at) (omega arith), ← (c .before .byte-at .ensures), ne-eqb _ _ (c .if2 .taken), or-true)
+
+add-byte-at-2 : tie.Need-add-byte-at-2
+add-byte-at-2 c = search needs
+
+byte-at-requires-2 : tie.Need-byte-at-requires-2
+byte-at-requires-2 c κs = search needs
+
+returns-3 : tie.Need-returns-3
+unfolding cardWrong
+returns-3 c = simp (zeros-two (c .before .before .before .before .before .before .before .args .file .now) (c .before .before .before .before .before .before .before .args .at) (omega arith), ← (c .before .byte-at2 .ensures), ne-eqb _ _ (c .if3 .taken), and-false, or-true)
+
+one-card-wrong-requires : tie.Need-one-card-wrong-requires
+one-card-wrong-requires c κs = search needs
+
+returns-4 : tie.Need-returns-4
+unfolding cardWrong
+returns-4 c = simp (le-ltb _ _ (c .before .before .before .before .before .if1 .left), zeros-two (c .before .before .before .before .before .before .before .before .args .file .now) (c .before .before .before .before .before .before .before .before .args .at) (omega arith), ← (c .before .before .before .before .byte-at .ensures), eq-eqb _ _ (c .before .before .before .if2 .left), ← (c .before .before .byte-at2 .ensures), eq-eqb _ _ (c .before .if3 .left), ← (c .one-card-wrong .ensures))
+
+pub card-wrong-spec : {M : Type 1} → statement M
+card-wrong-spec =
+    tie.close
+    (tie.spec
+    returns
+    add-byte-at
+    byte-at-requires
+    returns-2
+    add-byte-at-2
+    byte-at-requires-2
+    returns-3
+    one-card-wrong-requires
+    returns-4)

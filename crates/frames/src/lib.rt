@@ -1,0 +1,123 @@
+// The frames of a file, each a count and its operations: the rules 13 to 19.
+use big_endian::read_u16;
+use empty_frames::count_cut_off;
+use empty_frames::skip_empty;
+use format::CardTable;
+use format::Header;
+use format::Refusal;
+use format::Rule;
+use limit_tables::TARGETS;
+use operation::Walked;
+use operation::check_operations;
+use quick::QuickRun;
+use quick::either;
+use quick::quick_run;
+ghost use mathlib.Core.Path.{_≡_};
+ghost use lib.ListN.{length};
+ghost use Rattle.format.specs.Card.{cardsOf};
+ghost use Rattle.format.specs.Operation.{settingOf};
+ghost use Rattle.operation.specs.Answer.{walkedOf};
+ghost use Rattle.limit_tables.specs.Limits.{LimitsOf};
+ghost use Rattle.quick.specs.Run.{quickRun};
+ghost use Rattle.frames.specs.Frames.{framesSaid};
+
+// The items of a frame that are passed quickly. A frame that has none costs no call.
+fn frame_run(
+    file: &[u8],
+    version: u8,
+    pools: u32,
+    directory: u32,
+    limits: &[u32; TARGETS],
+    starts: &[u32; TARGETS],
+    ends: &[u64; TARGETS],
+    kinds: &[u8; TARGETS],
+    count: u32,
+    at: usize,
+) -> QuickRun
+    ensures { λ r. ⌜ r ≡ quickRun version (now (file .entry)) pools directory (now (limits .entry)) (now (starts .entry)) (now (ends .entry)) (now (kinds .entry)) (length (now (file .entry))) count at ⌝ }
+{
+    if count == 0 {
+        return QuickRun {
+            at,
+            left: 0,
+            si22: false,
+        };
+    }
+    quick_run(
+        file,
+        version,
+        pools,
+        directory,
+        limits,
+        starts,
+        ends,
+        kinds,
+        file.len(),
+        count,
+        at,
+    )
+}
+
+// The frames, each a count and its operations; with what is known of target 11 before them. The tables are copied only for what is
+// not passed quickly.
+pub fn check_frames(
+    file: &[u8],
+    header: Header,
+    cards: CardTable,
+    limits: &[u32; TARGETS],
+    starts: &[u32; TARGETS],
+    ends: &[u64; TARGETS],
+    kinds: &[u8; TARGETS],
+    si22: bool,
+) -> Walked
+    requires { ⌜ LimitsOf (header .version) (cardsOf cards) (now limits) (now starts) (now ends) (now kinds) ⌝ }
+    ensures { λ r. ⌜ walkedOf r ≡ framesSaid (settingOf (now (file .entry)) header cards) (now (file .entry)) (header .«frame_count») (header .«frame_start») si22 ⌝ }
+{
+    let version = header.version;
+    let pools = header.pool_count;
+    let directory = header.directory_offset;
+    let mut at = header.frame_start;
+    let mut left = header.frame_count;
+    let mut seen = si22;
+    while 0 < left {
+        let next = skip_empty(file, left, at);
+        if count_cut_off(file, next.at) {
+            return Walked::Refused(Refusal {
+                rule: Rule::CutOff,
+                place: next.at,
+            });
+        }
+        let count = read_u16(file, next.at) as u32;
+        let run = frame_run(
+            file,
+            version,
+            pools,
+            directory,
+            limits,
+            starts,
+            ends,
+            kinds,
+            count,
+            next.at + 2,
+        );
+        seen = either(seen, run.si22);
+        if run.left == 0 {
+            at = run.at;
+        } else {
+            match check_operations(file, header, cards, file.len(), run.left, run.at) {
+                Walked::End { place, si22 } => {
+                    at = place;
+                    seen = either(seen, si22);
+                }
+                Walked::Refused(refusal) => {
+                    return Walked::Refused(refusal);
+                }
+            }
+        }
+        left = next.left - 1;
+    }
+    Walked::End {
+        place: at,
+        si22: seen,
+    }
+}

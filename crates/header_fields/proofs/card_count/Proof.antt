@@ -1,0 +1,20 @@
+-- `header_fields::card_count` meets its contract. Assumes nothing.
+use borrow.Author.Needs.{needs}
+use borrow.Author.Tests.{eq-eqb, ne-eqb}
+use Rattle.format.specs.Header.{cardCount}
+use Rattle.header_fields.proofs.card_count.Statement.{statement}
+use Rattle.header_fields.proofs.card_count.Tie as tie
+
+byte-at-requires : tie.Need-byte-at-requires
+byte-at-requires c κs = search needs
+
+returns : tie.Need-returns
+unfolding cardCount
+returns c = simp (eq-eqb _ _ (c .before .if1 .taken), ← (c .byte-at .ensures))
+
+returns-2 : tie.Need-returns-2
+unfolding cardCount
+returns-2 c = simp (ne-eqb _ _ (c .if1 .left))
+
+pub card-count-spec : {M : Type 1} → statement M
+card-count-spec = tie.close (tie.spec byte-at-requires returns returns-2)

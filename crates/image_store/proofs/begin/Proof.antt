@@ -1,0 +1,26 @@
+-- `image_store::begin` meets its contract. Assumes nothing.
+use borrow.Author.Needs.{needs}
+use Prim.Native.Nat.{_-_}
+use mathlib.Core.Path.{_∙_}
+use Rattle.image_store.proofs.Image.{fill-all}
+use Rattle.image_store.proofs.begin.Statement.{statement}
+use Rattle.image_store.proofs.begin.Tie as tie
+
+fill-requires : tie.Need-fill-requires
+fill-requires c κs = search needs
+
+same-length : tie.Need-same-length
+same-length c = search needs
+
+returns : tie.Need-returns
+returns c =
+    let a = c .before .before .before .before .before .args in
+    c .before .before .fill .ensures ∙ fill-all (a .image .now) 0x80
+
+pub begin-spec : {M : Type 1} → statement M
+begin-spec =
+    tie.close
+    (tie.spec
+    fill-requires
+    same-length
+    returns)

@@ -1,0 +1,76 @@
+-- `image_store::copy` meets its contract. Assumes nothing.
+use borrow.Author.Needs.{needs}
+use native.Mathlib.Omega.{arith}
+use Prim.Native.Nat.{_+_, _-_, _≤_}
+use mathlib.Core.Path.{_≡_, refl, sym, _∙_}
+use lib.ListN.{length, length-set}
+use Rattle.format.specs.Compare.{played}
+use Rattle.spans.specs.Segments.{spread}
+use Rattle.image_store.proofs.Image.{copy-step, copy-end}
+use Rattle.image_store.proofs.copy.Statement.{statement}
+use Rattle.image_store.proofs.copy.Tie as tie
+
+abbrev Inv-loop : tie.InvT-loop
+Inv-loop image₀ address count file source at₀ left₀ from₀ image at left from =
+    (length image ≡ length image₀)
+    × (at + left ≡ address + count)
+    × (from + left ≤ 0x2000000100000000)
+    × (played image₀ (spread file 2 address source 1 count) ≡ played image (spread file 2 at from 1 left))
+
+abbrev μ-loop : tie.MeasureT-loop
+μ-loop image₀ address count file source at₀ left₀ from₀ image at left from =
+    left
+
+loop-holds : tie.Need-loop-holds Inv-loop μ-loop
+loop-holds c = (refl, refl, omega arith, refl)
+
+byte-at-requires : tie.Need-byte-at-requires Inv-loop μ-loop
+byte-at-requires c κs = search needs
+
+slice-write-image : tie.Need-slice-write-image Inv-loop μ-loop
+slice-write-image c = search needs
+
+add-at : tie.Need-add-at Inv-loop μ-loop
+add-at c = search needs
+
+add-from : tie.Need-add-from Inv-loop μ-loop
+add-from c = search needs
+
+sub-left : tie.Need-sub-left Inv-loop μ-loop
+sub-left c = search needs
+
+loop-less : tie.Need-loop-less Inv-loop μ-loop
+loop-less c = search needs
+
+loop-again : tie.Need-loop-again Inv-loop μ-loop
+loop-again c =
+    let l = c .before .before .loop in
+    let a = c .before .before .before .before .before .args in
+    (length-set (l .image) (l .at) (c .byte-at .result) ∙ l .inv .0, omega arith, omega arith, l .inv .3 ∙ copy-step (a .file .now) (l .image) (l .at) (l .from) 1 (l .left) (c .before .loop-test .taken) ∙ rw (← (c .byte-at .ensures)))
+
+same-length : tie.Need-same-length Inv-loop μ-loop
+same-length c = c .before .loop .inv .0
+
+returns : tie.Need-returns Inv-loop μ-loop
+returns c =
+    let l = c .before .loop in
+    let a = c .before .before .before .before .args in
+    let none : l .left ≡ 0 = omega arith in
+    rw (l .inv .3, none) (sym (copy-end (a .file .now) (l .image) (l .at) (l .from) 1))
+
+pub copy-spec : {M : Type 1} → statement M
+copy-spec =
+    tie.close
+    (tie.spec
+    Inv-loop
+    μ-loop
+    loop-holds
+    byte-at-requires
+    slice-write-image
+    add-at
+    add-from
+    sub-left
+    loop-less
+    loop-again
+    same-length
+    returns)

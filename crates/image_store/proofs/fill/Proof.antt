@@ -1,0 +1,67 @@
+-- `image_store::fill` meets its contract. Assumes nothing.
+use borrow.Author.Needs.{needs}
+use native.Mathlib.Omega.{arith}
+use Prim.Native.Nat.{_+_, _-_}
+use mathlib.Core.Path.{_≡_, refl, sym, _∙_}
+use lib.ListN.{length, replicate, length-set}
+use Rattle.format.specs.Compare.{played}
+use Rattle.format.specs.Writes.{upward}
+use Rattle.image_store.proofs.Image.{fill-step, fill-end}
+use Rattle.image_store.proofs.fill.Statement.{statement}
+use Rattle.image_store.proofs.fill.Tie as tie
+
+abbrev Inv-loop : tie.InvT-loop
+Inv-loop image₀ address count value at₀ left₀ image at left =
+    (length image ≡ length image₀)
+    × (at + left ≡ address + count)
+    × (played image₀ (upward 2 address (replicate count value)) ≡ played image (upward 2 at (replicate left value)))
+
+abbrev μ-loop : tie.MeasureT-loop
+μ-loop image₀ address count value at₀ left₀ image at left =
+    left
+
+loop-holds : tie.Need-loop-holds Inv-loop μ-loop
+loop-holds c = (refl, refl, refl)
+
+slice-write-image : tie.Need-slice-write-image Inv-loop μ-loop
+slice-write-image c = search needs
+
+add-at : tie.Need-add-at Inv-loop μ-loop
+add-at c = search needs
+
+sub-left : tie.Need-sub-left Inv-loop μ-loop
+sub-left c = search needs
+
+loop-less : tie.Need-loop-less Inv-loop μ-loop
+loop-less c = search needs
+
+loop-again : tie.Need-loop-again Inv-loop μ-loop
+loop-again c =
+    let l = c .before .loop in
+    let a = c .before .before .args in
+    (length-set (l .image) (l .at) (a .value) ∙ l .inv .0, omega arith, l .inv .2 ∙ fill-step (l .image) (l .at) (l .left) (a .value) (c .loop-test .taken))
+
+same-length : tie.Need-same-length Inv-loop μ-loop
+same-length c = c .before .loop .inv .0
+
+returns : tie.Need-returns Inv-loop μ-loop
+returns c =
+    let l = c .before .loop in
+    let a = c .before .before .args in
+    let none : l .left ≡ 0 = omega arith in
+    rw (l .inv .2, none) (sym (fill-end (l .image) (l .at) (a .value)))
+
+pub fill-spec : {M : Type 1} → statement M
+fill-spec =
+    tie.close
+    (tie.spec
+    Inv-loop
+    μ-loop
+    loop-holds
+    slice-write-image
+    add-at
+    sub-left
+    loop-less
+    loop-again
+    same-length
+    returns)

@@ -1,0 +1,64 @@
+-- Laws of arrays that are filled by number, and of what they are filled with.
+use Prim.Native.Nat.{ℕ, zero, suc, _+_, _≤_, _<_}
+use mathlib.Core.Path.{_≡_, refl}
+use mathlib.Core.Bool.{Bool, true, false}
+use mathlib.Core.List.{List, [], _∷_, _++_}
+use native.Mathlib.Numerals.{add-one}
+use native.Mathlib.Nat.{not-suc-le-zero}
+use native.Mathlib.Omega.{arith}
+use borrow.Author.Tests.{eqb-true, eqb-false}
+use lib.Dec.{eqb, lit≤}
+use lib.ListN.{length, getD, set, take, length-append, length-set, List·getD-append}
+use lib.Seq.{getD-at, take-all, take-suc-set}
+use Rattle.targets.specs.declared.Target.{Target}
+use Rattle.targets.specs.declared.Target.the-variants.{Core, Pcm, Bank, Slot, Si22, Missing}
+use Rattle.format.specs.Target.{writeLimit}
+use Rattle.limit_tables.specs.Limits.{tabled}
+
+-- no limit passes a card's
+pub write-limit-range : (target : Target) → writeLimit target ≤ 0x1FFFFFF
+write-limit-range Core = lit≤ tt
+write-limit-range Pcm = lit≤ tt
+write-limit-range Bank = lit≤ tt
+write-limit-range (Slot start size) = lit≤ tt
+write-limit-range Si22 = lit≤ tt
+write-limit-range Missing = lit≤ tt
+
+pub length-tabled : (f : ℕ → ℕ) (count : ℕ) → length (tabled f count) ≡ count
+unfolding tabled
+length-tabled f zero = refl
+length-tabled f (suc n) = rw length-append (omega (arith, length-tabled f n))
+
+-- the value at a number
+at-snoc : (f : ℕ → ℕ) (n i : ℕ) (front : List ℕ) → length front ≡ n → (i < n → getD front i 0 ≡ f i) → i < suc n → getD (front ++ (f n ∷ [])) i 0 ≡ f i
+at-snoc f n i front size rest h = go (eqb i n) refl
+  where
+    go : (b : Bool) → eqb i n ≡ b → getD (front ++ (f n ∷ [])) i 0 ≡ f i
+    go true e =
+        let last : i ≡ n = eqb-true i n e in
+        rw last (getD-at front (f n) [] 0 n size)
+    go false e =
+        let less : i < n = omega (arith, eqb-false i n e) in
+        rw (List·getD-append front (f n ∷ []) 0 i (omega arith)) (rest less)
+
+pub tabled-at : (f : ℕ → ℕ) (count i : ℕ) → i < count → getD (tabled f count) i 0 ≡ f i
+unfolding tabled
+tabled-at f zero i h = absurd (not-suc-le-zero h)
+tabled-at f (suc n) i h = at-snoc f n i (tabled f n) (length-tabled f n) (tabled-at f n i) h
+
+-- an array of all target numbers that is filled up to a number: empty, with one value more, and full
+pub record Filled (f : ℕ → ℕ) (n : ℕ) (array : List ℕ) : Type 0 where
+  pub size : length array ≡ 12
+  pub front : take n array ≡ tabled f n
+
+pub filled-none : (f : ℕ → ℕ) (array : List ℕ) → length array ≡ 12 → Filled f 0 array
+unfolding tabled
+filled-none f array e = record { size = e; front = refl }
+
+pub filled-next : (f : ℕ → ℕ) (n : ℕ) (array : List ℕ) (v : ℕ) → Filled f n array → n < 12 → v ≡ f n → Filled f (n + 1) (set array n v)
+unfolding tabled
+filled-next f n array v filled h e =
+    record { size = rw length-set (filled .size); front = rw (add-one, take-suc-set array n v (omega (arith, filled .size)), filled .front, e) }
+
+pub filled-all : (f : ℕ → ℕ) (array : List ℕ) → Filled f 12 array → array ≡ tabled f 12
+filled-all f array filled = rw (take-all 12 array (omega (arith, filled .size))) at (filled .front)

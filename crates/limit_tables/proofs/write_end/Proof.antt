@@ -1,0 +1,28 @@
+use borrow.Author.Needs.{needs}
+use Rattle.limit_tables.proofs.Tabled.{write-limit-range}
+use native.Mathlib.Omega.{arith}
+use mathlib.Core.Bool.{and-false, or-false}
+use Rattle.limit_tables.specs.Limits.{writeEnd}
+use Rattle.limit_tables.proofs.write_end.Statement.{statement}
+use Rattle.limit_tables.proofs.write_end.Tie as tie
+
+missing-requires : tie.Need-missing-requires
+missing-requires c κs = search needs
+
+returns : tie.Need-returns
+unfolding writeEnd
+returns c = simp (← (c .before .missing .ensures), c .if1 .taken, and-false, or-false)
+
+write-limit-requires : tie.Need-write-limit-requires
+write-limit-requires c κs = search needs
+
+add-result : tie.Need-add-result
+add-result c = omega (arith, c .write-limit .ensures, write-limit-range (c .before .before .before .args .target))
+
+returns-2 : tie.Need-returns-2
+unfolding writeEnd
+returns-2 c = simp (← (c .before .before .missing .ensures), c .before .if1 .left, ← (c .write-limit .ensures), and-false, or-false)
+
+pub write-end-spec : {M : Type 1} → statement M
+write-end-spec =
+    tie.close (tie.spec missing-requires returns write-limit-requires add-result returns-2)

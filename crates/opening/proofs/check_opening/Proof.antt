@@ -1,0 +1,70 @@
+-- `opening::check_opening` meets its contract. Assumes nothing.
+use borrow.Author.Needs.{needs}
+use Prim.Native.Nat.{ℕ}
+use mathlib.Core.Path.{_≡_}
+use mathlib.Core.Bool.{Bool, _||_}
+use Rattle.format.specs.Card.{cardsOf}
+use Rattle.format.specs.Checked.{mapped}
+use Rattle.format.specs.Operation.{settingOf}
+use Rattle.format.specs.Stream.{openingLimit}
+use Rattle.operation.specs.Answer.{walkedOf}
+use Rattle.quick.proofs.Ran.{quick-ran}
+use Rattle.operation.specs.Walk.{walked}
+use Rattle.operation.proofs.Steps.{walked-with}
+use Rattle.opening.proofs.check_opening.Statement.{statement}
+use Rattle.opening.proofs.check_opening.Tie as tie
+
+opening-limit-requires : tie.Need-opening-limit-requires
+opening-limit-requires c κs = search needs
+
+cast-quick-run : tie.Need-cast-quick-run
+cast-quick-run c = search needs
+
+quick-run-requires : tie.Need-quick-run-requires
+quick-run-requires c κs = search needs
+
+check-operations-requires : tie.Need-check-operations-requires
+check-operations-requires c κs = search needs
+
+-- the opening is what was passed quickly, and what is behind
+whole : (c : tie.After-check-operations)
+    → let q = c .before in
+    let a = q .before .before .before .before .args in
+    walked (settingOf (a .file .now) (a .header) (a .cards)) (a .file .now) (openingLimit (a .header) (a .file .now)) (a .header .«initial_count») (a .header .«initial_start»)
+    ≡ mapped {B = ℕ × Bool} (λ (found : ℕ × Bool). (found .0, q .quick-run .result .si22 || found .1)) (walkedOf (c .check-operations .result))
+whole c =
+    let q = c .before in
+    let s = q .before .before .before .before in
+    let a = s .args in
+    let h = a .header in
+    let run = q .quick-run .result in
+    rw (quick-ran (h .version) (cardsOf (a .cards)) (h .«pool_count») (h .«directory_offset») (a .file .now) (a .limits .now) (a .starts .now) (a .ends .now) (a .kinds .now) (openingLimit h (a .file .now)) (h .«initial_count») (h .«initial_start») (s .pre), ← (q .before .before .opening-limit .ensures), ← (q .quick-run .ensures), walked-with (run .si22) (settingOf (a .file .now) h (a .cards)) (a .file .now) (q .before .before .opening-limit .result) (run .left) (run .at), ← (c .check-operations .ensures))
+
+enum-known-place : tie.Need-enum-known-place
+enum-known-place c = search needs
+
+either-requires : tie.Need-either-requires
+either-requires c κs = search needs
+
+enum-known-refusal : tie.Need-enum-known-refusal
+enum-known-refusal c = search needs
+
+returns : tie.Need-returns
+returns c = rw (whole (c .before .before .before .before), c .before .before .place .given .1, c .either .ensures)
+
+returns-2 : tie.Need-returns-2
+returns-2 c = rw (whole (c .before .before .before), c .before .refusal .given .1)
+
+pub check-opening-spec : {M : Type 1} → statement M
+check-opening-spec =
+    tie.close
+    (tie.spec
+    opening-limit-requires
+    cast-quick-run
+    quick-run-requires
+    check-operations-requires
+    enum-known-place
+    either-requires
+    enum-known-refusal
+    returns
+    returns-2)

@@ -1,0 +1,41 @@
+-- `pool_lookup::find_pool` meets its contract. Assumes nothing.
+use mathlib.Core.Path.{ap}
+use Rattle.format.specs.declared.header.Header.{Header}
+use Rattle.format.specs.Checked.{ok}
+use Rattle.pool_entry.specs.Entry.{entryOf}
+use Rattle.file_check.proofs.Answers.{accepted-as, refused-as}
+use borrow.Author.Needs.{needs}
+use Rattle.pool_lookup.proofs.find_pool.Statement.{statement}
+use Rattle.pool_lookup.proofs.find_pool.Tie as tie
+
+check-file-requires : tie.Need-check-file-requires
+check-file-requires c κs = search needs
+
+enum-known-answer : tie.Need-enum-known-answer
+enum-known-answer c = search needs
+
+entry-of-requires : tie.Need-entry-of-requires
+entry-of-requires c κs = search needs
+
+enum-known-answer-2 : tie.Need-enum-known-answer-2
+enum-known-answer-2 c = search needs
+
+returns : tie.Need-returns
+returns c =
+    let s = c .before .before .before .before .before .before .args in
+    let a = accepted-as (s .file .now) _ _ _ (c .before .before .before .before .check-file .ensures) (c .before .before .answer .given .1) in
+    rw (a .reads, c .entry-of .ensures) (ap (λ (h : Header). ok (entryOf (s .file .now) h (s .id))) (a .header-is))
+
+returns-2 : tie.Need-returns-2
+returns-2 c = rw (refused-as (c .before .before .before .before .before .args .file .now) _ _ (c .before .before .before .check-file .ensures) (c .before .answer2 .given .1) .0)
+
+pub find-pool-spec : {M : Type 1} → statement M
+find-pool-spec =
+    tie.close
+    (tie.spec
+    check-file-requires
+    enum-known-answer
+    entry-of-requires
+    enum-known-answer-2
+    returns
+    returns-2)

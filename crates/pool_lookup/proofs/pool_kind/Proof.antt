@@ -1,0 +1,24 @@
+-- `pool_lookup::pool_kind` meets its contract. Assumes nothing.
+use Rattle.pool_lookup.proofs.Pools.{kind-found}
+use borrow.Author.Needs.{needs}
+use Rattle.pool_lookup.proofs.pool_kind.Statement.{statement}
+use Rattle.pool_lookup.proofs.pool_kind.Tie as tie
+
+find-pool-requires : tie.Need-find-pool-requires
+find-pool-requires c κs = search needs
+
+enum-known-pool : tie.Need-enum-known-pool
+enum-known-pool c = search needs
+
+enum-known-refusal : tie.Need-enum-known-refusal
+enum-known-refusal c = search needs
+
+returns : tie.Need-returns
+returns c = rw (kind-found, ← (c .before .before .before .find-pool .ensures), c .before .pool .given .1)
+
+returns-2 : tie.Need-returns-2
+returns-2 c = rw (kind-found, ← (c .before .before .before .find-pool .ensures), c .before .refusal .given .1)
+
+pub pool-kind-spec : {M : Type 1} → statement M
+pool-kind-spec =
+    tie.close (tie.spec find-pool-requires enum-known-pool enum-known-refusal returns returns-2)

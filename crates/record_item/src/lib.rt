@@ -1,0 +1,58 @@
+// The record of a file of version 1 at a place, with the rules 14 to 16. Where the limit passes the file's end, the bytes there are 0.
+use allowed::OperationRead;
+use allowed::allow;
+use allowed::target_number;
+use big_endian::byte_at;
+use big_endian::read_u24;
+use format::CardTable;
+use format::Header;
+use format::Operation;
+use format::Refusal;
+use format::Rule;
+use target_lookup::find_target;
+ghost use mathlib.Core.Path.{_≡_};
+ghost use Rattle.format.specs.Operation.{settingOf, recordAt};
+ghost use Rattle.allowed.specs.Answer.{itemOf};
+
+// The record of a file of version 1 at a place.
+pub fn read_record(
+    file: &[u8],
+    header: Header,
+    cards: CardTable,
+    limit: usize,
+    at: usize,
+) -> OperationRead
+    ensures { λ r. ⌜ itemOf r ≡ recordAt (settingOf (now (file .entry)) header cards) (now (file .entry)) limit at ⌝ }
+{
+    if limit < 5 {
+        return OperationRead::Refused(Refusal {
+            rule: Rule::CutOff,
+            place: at,
+        });
+    }
+    if limit - 5 < at {
+        return OperationRead::Refused(Refusal {
+            rule: Rule::CutOff,
+            place: at,
+        });
+    }
+    let operation = Operation::Write {
+        target: byte_at(file, at),
+        address: read_u24(file, at + 1),
+        value: byte_at(file, at + 4),
+    };
+    let version = header.version;
+    let target = find_target(target_number(operation), version, cards);
+    let pools = header.pool_count;
+    let directory = header.directory_offset;
+    allow(
+        file,
+        version,
+        pools,
+        directory,
+        at,
+        target,
+        operation,
+        at + 5,
+    )
+}

@@ -1,0 +1,53 @@
+-- `rules::copy_wrong` meets its contract. Assumes nothing.
+use borrow.Author.Needs.{needs}
+use Rattle.format.specs.Operation.{copyWrong}
+use Rattle.format.proofs.Decided.{decided}
+use Rattle.rules.proofs.copy_wrong.Statement.{statement}
+use Rattle.rules.proofs.copy_wrong.Tie as tie
+
+add-end : tie.Need-add-end
+add-end c = search needs
+
+cast-size : tie.Need-cast-size
+cast-size c = search needs
+
+returns : tie.Need-returns
+unfolding copyWrong
+returns c = search decided
+
+kind-requires : tie.Need-kind-requires
+kind-requires c κs = search needs
+
+returns-2 : tie.Need-returns-2
+unfolding copyWrong
+returns-2 c = search (decided, ← (c .before .kind .ensures))
+
+returns-3 : tie.Need-returns-3
+unfolding copyWrong
+returns-3 c = search (decided, ← (c .before .before .kind .ensures))
+
+returns-4 : tie.Need-returns-4
+unfolding copyWrong
+returns-4 c = search (decided, ← (c .before .before .before .kind .ensures))
+
+returns-5 : tie.Need-returns-5
+unfolding copyWrong
+returns-5 c = search (decided, ← (c .before .before .before .before .kind .ensures))
+
+returns-6 : tie.Need-returns-6
+unfolding copyWrong
+returns-6 c = search (decided, ← (c .before .before .before .before .kind .ensures))
+
+pub copy-wrong-spec : {M : Type 1} → statement M
+copy-wrong-spec =
+    tie.close
+    (tie.spec
+    add-end
+    cast-size
+    returns
+    kind-requires
+    returns-2
+    returns-3
+    returns-4
+    returns-5
+    returns-6)

@@ -1,0 +1,64 @@
+-- `sections::counts_wrong` meets its contract. Assumes nothing.
+use Rattle.header_rules.proofs.Size.{header-small}
+use borrow.Author.Tests.{eq-eqb, ne-eqb, le-ltb, lt-ltb}
+use mathlib.Core.Bool.{or-true}
+use Rattle.format.specs.Stream.{countsWrong}
+use borrow.Author.Needs.{needs}
+use native.Mathlib.Omega.{arith}
+use Rattle.sections.proofs.counts_wrong.Statement.{statement}
+use Rattle.sections.proofs.counts_wrong.Tie as tie
+
+returns : tie.Need-returns
+unfolding countsWrong
+returns c = simp (eq-eqb _ _ (c .if1 .taken))
+
+returns-2 : tie.Need-returns-2
+unfolding countsWrong
+returns-2 c = simp (lt-ltb _ _ (c .if2 .taken), or-true)
+
+cast-if3 : tie.Need-cast-if3
+cast-if3 c = search needs
+
+returns-3 : tie.Need-returns-3
+unfolding countsWrong
+returns-3 c = simp (ne-eqb _ _ (c .if3 .taken), or-true)
+
+returns-4 : tie.Need-returns-4
+unfolding countsWrong
+returns-4 c = simp (lt-ltb _ _ (c .if4 .taken), or-true)
+
+header-size-requires : tie.Need-header-size-requires
+header-size-requires c κs = search needs
+
+cast-behind : tie.Need-cast-behind
+cast-behind c = search needs
+
+mul-behind : tie.Need-mul-behind
+mul-behind c = search needs
+
+add-behind : tie.Need-add-behind
+add-behind c = omega (arith, header-small (c .before .before .before .before .before .before .before .before .before .before .args .header .version), c .before .header-size .ensures)
+
+cast-result : tie.Need-cast-result
+cast-result c = search needs
+
+returns-5 : tie.Need-returns-5
+unfolding countsWrong
+returns-5 c =
+    rw (ne-eqb _ _ (c .before .before .before .before .before .before .before .before .before .if1 .left), le-ltb _ _ (c .before .before .before .before .before .before .before .if2 .left), eq-eqb _ _ (c .before .before .before .before .before .if3 .left), le-ltb _ _ (c .before .before .before .if4 .left), ← (c .before .before .header-size .ensures))
+
+pub counts-wrong-spec : {M : Type 1} → statement M
+counts-wrong-spec =
+    tie.close
+    (tie.spec
+    returns
+    returns-2
+    cast-if3
+    returns-3
+    returns-4
+    header-size-requires
+    cast-behind
+    mul-behind
+    add-behind
+    cast-result
+    returns-5)

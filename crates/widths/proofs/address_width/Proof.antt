@@ -1,0 +1,16 @@
+-- `widths::address_width` meets its contract. Assumes nothing.
+use Rattle.format.specs.Operation.{addressWidth}
+use Rattle.format.proofs.Decided.{decided}
+use Rattle.widths.proofs.address_width.Statement.{statement}
+use Rattle.widths.proofs.address_width.Tie as tie
+
+returns : tie.Need-returns
+unfolding addressWidth
+returns c = search decided
+
+returns-2 : tie.Need-returns-2
+unfolding addressWidth
+returns-2 c = search decided
+
+pub address-width-spec : {M : Type 1} → statement M
+address-width-spec = tie.close (tie.spec returns returns-2)
