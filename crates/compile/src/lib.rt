@@ -1,5 +1,4 @@
 // Repacking: a master, which is a file of version 1, as a file of version 2 in a lent buffer.
-mod layout;
 mod song;
 mod write;
 

@@ -1,14 +1,15 @@
 // Writes a repacked file, part by part, into a buffer that holds it.
-use crate::layout::Layout;
-use crate::layout::new_header;
-use crate::layout::pcm_pool;
 use format::Header;
-use repack::BUCKETS;
-use repack::MOST;
-use repack_write::put_frames;
-use repack_write::put_opening;
-use repack_write::put_pcm;
-use repack_write::put_waves;
+use repack::Measure;
+use repack::SPOTS;
+use repack_frames::put_frames;
+use repack_layout::Layout;
+use repack_layout::new_header;
+use repack_layout::pcm_pool;
+use repack_opening::put_opening;
+use repack_payloads::put_pcm;
+use repack_payloads::put_waves;
+use wave_table::MOST;
 use written::put_directory;
 use written::put_header;
 ghost use mathlib.Core.Path.{_≡_};
@@ -17,8 +18,8 @@ ghost use lib.ListN.{length};
 ghost use Rattle.format.specs.Repack.{repacked};
 ghost use Rattle.format.specs.Written.{written};
 ghost use Rattle.big_endian.specs.Put.{put};
-ghost use Rattle.repack.specs.Places.{masterOf};
-ghost use Rattle.compile.specs.Layout.{Known, layoutOf, frontOf, FrontFits};
+ghost use Rattle.master.specs.Places.{masterOf};
+ghost use Rattle.repack_layout.specs.Layout.{Known, layoutOf, frontOf, FrontFits};
 
 // The header, the directory and the payloads.
 fn write_front(
@@ -46,31 +47,28 @@ pub fn write_master(
     file: &[u8],
     header: Header,
     pcm: usize,
-    waves: usize,
-    size: usize,
+    found: Measure,
     layout: Layout,
-    heads: &[u16; BUCKETS],
-    next: &[u16; MOST],
     places: &[u32; MOST],
+    spots: &[u32; SPOTS],
+    numbers: &[u16; MOST],
     buffer: &mut [u8],
 )
-    requires { ⌜ Known (now file) header (now heads) (now next) (now places) pcm waves size × (layout ≡ layoutOf (header .«initial_count») pcm waves size) × (layout .total ≤ 0xE00000) × (layout .total ≤ length (now buffer)) ⌝ }
+    requires { ⌜ Known (now file) header (now places) (now spots) (now numbers) pcm (found .waves) (found .uses) (found .size) × (layout ≡ layoutOf (header .«initial_count») pcm (found .waves) (found .size)) × (layout .total ≤ 0xE00000) × (layout .total ≤ length (now buffer)) ⌝ }
     ensures { λ _. ⌜ now (buffer .exit) ≡ put (written (repacked (masterOf (now (file .entry)) header))) 0 (now (buffer .entry)) ⌝ }
 {
     let records = header.initial_count as usize;
     let frames = header.frame_count as usize;
     let start = 20 + records * 5;
-    write_front(file, header, pcm, waves, layout, places, buffer);
+    write_front(file, header, pcm, found.waves, layout, places, buffer);
     put_opening(file, records, pcm, buffer, layout.opening);
     put_frames(
         file,
         start,
         frames,
         pcm_pool(pcm),
-        waves,
-        heads,
-        next,
-        places,
+        spots,
+        numbers,
         buffer,
         layout.frames,
     );

@@ -1,16 +1,20 @@
 // The first pass over a master: its PCM bytes, its waves, and the size that its frames have when they are repacked.
-use crate::waves::BUCKETS;
-use crate::waves::MOST;
-use crate::waves::add_wave;
-use crate::waves::starts_wave;
 use big_endian::read_u16;
 use big_endian::read_u24;
+use wave_run::starts_wave;
+use wave_table::BUCKETS;
+use wave_table::MOST;
+use wave_table::add_wave;
 ghost use mathlib.Core.Path.{_≡_};
-ghost use Prim.Native.Nat.{_+_, _*_, _≤_};
-ghost use lib.ListN.{length};
-ghost use Rattle.repack.specs.Places.{recordsAt, framesEnd};
-ghost use Rattle.repack.specs.Table.{Table};
-ghost use Rattle.repack.specs.Result.{pcmIn, pcmFrom, MeasuredFrame, Measured};
+ghost use Prim.Native.Nat.{_+_, _*_, _≤_, _<_};
+ghost use lib.ListN.{length, set};
+ghost use Rattle.master.specs.Places.{recordsAt, framesEnd};
+ghost use Rattle.master.specs.Result.{pcmFrom};
+ghost use Rattle.wave_table.specs.Table.{Table};
+ghost use Rattle.repack.specs.Measured.{pcmIn, Noted, MeasuredFrame, Measured};
+
+// One more than the waves that a file can use: behind the last place that is noted stands a 0.
+pub const SPOTS: usize = 11469;
 
 // The opening's PCM records: how many there are, if their addresses run 0, 1, 2 and so on.
 pub enum PcmRun {
@@ -18,9 +22,10 @@ pub enum PcmRun {
     OutOfOrder,
 }
 
-// How many waves are known, and the size of what was measured.
+// How many waves are known, how often they are used, and the size of what was measured.
 pub struct Measure {
     pub waves: usize,
+    pub uses: usize,
     pub size: usize,
 }
 
@@ -45,26 +50,48 @@ pub fn pcm_run(file: &[u8], count: usize) -> PcmRun
     PcmRun::InOrder(pcm)
 }
 
-// A frame of so many records: what its operations take, with its waves added to the table.
+// Notes a use of a wave: its place and the wave's number.
+fn note_use(
+    spots: &mut [u32; SPOTS],
+    numbers: &mut [u16; MOST],
+    uses: usize,
+    at: usize,
+    number: usize,
+)
+    requires { ⌜ (length (now spots) ≡ 11469) × (length (now numbers) ≡ 11468) × (uses < 11468) × (at < 4294967296) × (number < 65536) ⌝ }
+    ensures { λ _. ⌜ (now (spots .exit) ≡ set (now (spots .entry)) uses at) × (now (numbers .exit) ≡ set (now (numbers .entry)) uses number) ⌝ }
+{
+    spots[uses] = at as u32;
+    numbers[uses] = number as u16;
+}
+
+// A frame of so many records: what its operations take, with its waves added to the table and their uses noted.
 fn measure_frame(
     file: &[u8],
     start: usize,
     count: usize,
     known: usize,
+    noted: usize,
     heads: &mut [u16; BUCKETS],
     next: &mut [u16; MOST],
     places: &mut [u32; MOST],
+    spots: &mut [u32; SPOTS],
+    numbers: &mut [u16; MOST],
 ) -> Measure
-    requires { ⌜ Table (now file) (now heads) (now next) (now places) known × (start + count * 5 ≤ length (now file)) × (known * 1280 ≤ start) × (length (now file) ≤ 0xE00000) ⌝ }
-    ensures { λ r. ⌜ MeasuredFrame (now (file .entry)) start count known (now (places .entry)) (now (heads .exit)) (now (next .exit)) (now (places .exit)) (r .waves) (r .size) ⌝ }
+    requires { ⌜ Table (now file) (now heads) (now next) (now places) known × Noted (now file) (now places) (now spots) (now numbers) known noted × (start + count * 5 ≤ length (now file)) × (known * 1280 ≤ start) × (noted * 1280 ≤ start) × (length (now file) ≤ 0xE00000) ⌝ }
+    ensures { λ r. ⌜ MeasuredFrame (now (file .entry)) start count known noted (now (places .entry)) (now (spots .entry)) (now (heads .exit)) (now (next .exit)) (now (places .exit)) (now (spots .exit)) (now (numbers .exit)) (r .waves) (r .uses) (r .size) ⌝ }
 {
     let mut at = start;
     let mut left = count;
     let mut waves = known;
+    let mut uses = noted;
     let mut size: usize = 0;
     while 0 < left {
         if starts_wave(file, at, left) {
-            waves = add_wave(file, at, waves, heads, next, places);
+            let wave = add_wave(file, at, waves, heads, next, places);
+            note_use(spots, numbers, uses, at, wave.number);
+            waves = wave.waves;
+            uses += 1;
             at += 1280;
             left -= 256;
             size += 15;
@@ -74,10 +101,10 @@ fn measure_frame(
             size += 6;
         }
     }
-    Measure { waves, size }
+    Measure { waves, uses, size }
 }
 
-// So many frames from a place, with an empty table.
+// So many frames from a place, with an empty table and nothing noted.
 pub fn measure_frames(
     file: &[u8],
     start: usize,
@@ -85,21 +112,36 @@ pub fn measure_frames(
     heads: &mut [u16; BUCKETS],
     next: &mut [u16; MOST],
     places: &mut [u32; MOST],
+    spots: &mut [u32; SPOTS],
+    numbers: &mut [u16; MOST],
 ) -> Measure
-    requires { ⌜ Table (now file) (now heads) (now next) (now places) 0 × (framesEnd (now file) count start ≤ length (now file)) × (length (now file) ≤ 0xE00000) ⌝ }
-    ensures { λ r. ⌜ Measured (now (file .entry)) start count (now (heads .exit)) (now (next .exit)) (now (places .exit)) (r .waves) (r .size) ⌝ }
+    requires { ⌜ Table (now file) (now heads) (now next) (now places) 0 × Noted (now file) (now places) (now spots) (now numbers) 0 0 × (framesEnd (now file) count start ≤ length (now file)) × (length (now file) ≤ 0xE00000) ⌝ }
+    ensures { λ r. ⌜ Measured (now (file .entry)) start count (now (places .exit)) (now (spots .exit)) (now (numbers .exit)) (r .waves) (r .uses) (r .size) ⌝ }
 {
     let mut at = start;
     let mut left = count;
     let mut waves: usize = 0;
+    let mut uses: usize = 0;
     let mut size: usize = 0;
     while 0 < left {
         let records = read_u16(file, at) as usize;
-        let frame = measure_frame(file, at + 2, records, waves, heads, next, places);
+        let frame = measure_frame(
+            file,
+            at + 2,
+            records,
+            waves,
+            uses,
+            heads,
+            next,
+            places,
+            spots,
+            numbers,
+        );
         waves = frame.waves;
+        uses = frame.uses;
         size += 2 + frame.size;
         at += 2 + records * 5;
         left -= 1;
     }
-    Measure { waves, size }
+    Measure { waves, uses, size }
 }

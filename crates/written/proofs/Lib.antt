@@ -1,3 +1,1 @@
-pub mod Items
-pub mod Laid
-pub mod Writing
+pub mod Front

@@ -6,7 +6,7 @@ ghost use mathlib.Core.Path.{_≡_};
 ghost use Prim.Native.Nat.{_+_, _*_, _≤_, _<_};
 ghost use lib.ListN.{length};
 ghost use Rattle.big_endian.specs.Put.{put};
-ghost use Rattle.written.specs.Items.{entryBytes, waveEntries, directoryOf};
+ghost use Rattle.written.specs.Front.{entryBytes, waveEntries, directoryOf};
 
 // An entry.
 fn put_entry(buffer: &mut [u8], at: usize, id: u16, kind: u8, size: u32, start: u32)

@@ -10,7 +10,7 @@ ghost use lib.ListN.{length};
 ghost use Rattle.format.specs.Bytes.{bytesOfAll};
 ghost use Rattle.format.specs.Written.{headerFields};
 ghost use Rattle.big_endian.specs.Put.{put};
-ghost use Rattle.written.specs.Items.{frontFields, countFields, sizeFields};
+ghost use Rattle.written.specs.Front.{frontFields, countFields, sizeFields};
 
 // The repeat flag as a byte.
 fn flag(repeat: bool) -> u8

@@ -1,10 +1,6 @@
-// Writes what a file of version 2 is made of into a lent buffer: its header, the directory of a repacked file, its operations.
+// Writes what a file of version 2 starts with into a lent buffer: its header, and the directory of a repacked file.
 mod directory;
 mod header;
-mod item;
 
 pub use directory::put_directory;
 pub use header::put_header;
-pub use item::put_copy;
-pub use item::put_fill;
-pub use item::put_write;

@@ -9,12 +9,12 @@ use Rattle.format.specs.declared.header.Header.{Header}
 use Rattle.format.specs.Bytes.{bytesOfAll}
 use Rattle.format.specs.Written.{headerFields}
 use Rattle.big_endian.specs.Put.{put}
-use Rattle.repack.specs.Result.{pcmBytes}
-use Rattle.written.specs.Items.{directoryOf}
-use Rattle.written.proofs.Writing.{starts, wrote, ends}
-use Rattle.repack_write.specs.Parts.{wavesBytes}
-use Rattle.compile.specs.Layout.{newHeader, frontOf}
-use Rattle.compile.proofs.Numbers.{directory-long, header-long, new-version, front-is, front-size}
+use Rattle.master.specs.Result.{pcmBytes}
+use Rattle.written.specs.Front.{directoryOf}
+use Rattle.written_items.proofs.Writing.{starts, wrote, ends}
+use Rattle.repack_payloads.specs.Payloads.{wavesBytes}
+use Rattle.repack_layout.specs.Layout.{newHeader, frontOf}
+use Rattle.repack_layout.proofs.Numbers.{directory-long, header-long, new-version, front-is, front-size}
 use Rattle.compile.proofs.write.write_front.Statement.{statement}
 use Rattle.compile.proofs.write.write_front.Tie as tie
 

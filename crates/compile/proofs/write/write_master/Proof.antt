@@ -7,14 +7,15 @@ use borrow.Author.Needs.{needs}
 use lib.ListN.{length}
 use Rattle.format.specs.Repack.{repacked}
 use Rattle.format.specs.Written.{written}
-use Rattle.repack.specs.Places.{masterOf}
-use Rattle.repack.specs.Table.{wavesIn}
-use Rattle.repack.specs.Result.{frameBytes}
-use Rattle.written.proofs.Writing.{starts, wrote, ends}
-use Rattle.repack_write.specs.Parts.{openingPart}
-use Rattle.compile.specs.Layout.{pcmPool, frontOf}
-use Rattle.compile.proofs.Made.{pcm-few, frames-at, total-at, parts-are, total-is, front-fits}
-use Rattle.compile.proofs.Numbers.{front-size}
+use Rattle.master.specs.Places.{masterOf}
+use Rattle.wave_table.specs.Table.{wavesIn}
+use Rattle.master.specs.Result.{frameBytes}
+use Rattle.written_items.proofs.Writing.{starts, wrote, ends}
+use Rattle.repack_opening.specs.Opening.{openingPart}
+use Rattle.repack_layout.specs.Layout.{pcmPool, frontOf}
+use Rattle.compile.proofs.Frames.{lists, marked, frames-are}
+use Rattle.repack_layout.proofs.Made.{pcm-few, frames-at, total-at, parts-are, total-is, front-fits}
+use Rattle.repack_layout.proofs.Numbers.{front-size}
 use Rattle.compile.proofs.write.write_master.Statement.{statement}
 use Rattle.compile.proofs.write.write_master.Tie as tie
 
@@ -53,7 +54,7 @@ put-frames-requires c κs =
     let p = c .before .before .before .before .before .before .before .before .before .before .before .before .before .before .pre in
     let all-at = total-at (p .0) (p .1) in
     let pool = c .before .pcm-pool .ensures in
-    (p .0 .measured .table, p .0 .frames-fit, pool .1, rw (pool .0) (omega arith))
+    (lists (p .0), marked (p .0), p .0 .frames-fit, pool .1, rw (pool .0, frames-are (p .0) (pcmPool (a .pcm))) (omega arith))
 
 same-length : tie.Need-same-length
 same-length c = search needs
@@ -64,9 +65,9 @@ returns c =
     let p = c .before .before .before .before .before .before .before .before .before .before .before .before .before .before .before .before .before .pre in
     let file = a .file .now in
     let places = a .places .now in
-    let f = frontOf file (a .header) (a .pcm) (a .waves) (a .layout) places in
+    let f = frontOf file (a .header) (a .pcm) (a .found .waves) (a .layout) places in
     let o = openingPart file (a .header .«initial_count») (a .pcm) in
-    let r = frameBytes (pcmPool (a .pcm)) (wavesIn file places (a .waves)) file (a .header .«frame_count») (20 + a .header .«initial_count» * 5) in
+    let r = frameBytes (pcmPool (a .pcm)) (wavesIn file places (a .found .waves)) file (a .header .«frame_count») (20 + a .header .«initial_count» * 5) in
     let total = total-is (p .0) (p .1) in
     let parts = parts-are (p .0) (p .1) in
     let fits = front-fits (p .0) (p .1) (a .buffer .now) (p .2) (p .3) in
@@ -74,7 +75,7 @@ returns c =
     let w₀ = starts (written (repacked (masterOf file (a .header)))) 0 (a .buffer .now) (omega arith) in
     let w₁ = wrote w₀ f (o ++ r) (length f) {place′ = a .layout .opening} parts refl (omega arith) (c .before .before .before .before .before .before .before .before .before .before .before .write-front .ensures) in
     let w₂ = wrote w₁ o r (length o) {place′ = a .layout .frames} refl refl (frames-at (p .0) (p .1)) (c .before .before .before .before .before .before .before .put-opening .ensures) in
-    let done = wrote w₂ r [] (length r) {place′ = a .layout .frames + length r} (sym (append-nil r)) refl refl (rw (c .before .before .before .before .pcm-pool .ensures .0) at (c .before .before .put-frames .ensures)) in
+    let done = wrote w₂ r [] (length r) {place′ = a .layout .frames + length r} (sym (append-nil r)) refl refl (rw (c .before .before .before .before .pcm-pool .ensures .0, frames-are (p .0) (pcmPool (a .pcm))) at (c .before .before .put-frames .ensures)) in
     ends done refl .0
 
 pub write-master-spec : {M : Type 1} → statement M

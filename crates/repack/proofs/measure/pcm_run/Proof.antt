@@ -6,9 +6,9 @@ use native.Mathlib.Omega.{arith}
 use borrow.Author.Needs.{needs}
 use lib.ListN.{length}
 use Rattle.format.proofs.Bytes.{be-within}
-use Rattle.repack.specs.Places.{recordsAt}
-use Rattle.repack.specs.Result.{pcmFrom}
-use Rattle.repack.proofs.Result.{pcm-none, pcm-more, pcm-wrong, pcm-other}
+use Rattle.master.specs.Places.{recordsAt}
+use Rattle.master.specs.Result.{pcmFrom}
+use Rattle.master.proofs.Result.{pcm-none, pcm-more, pcm-wrong, pcm-other}
 use Rattle.repack.proofs.measure.pcm_run.Statement.{statement}
 use Rattle.repack.proofs.measure.pcm_run.Tie as tie
 

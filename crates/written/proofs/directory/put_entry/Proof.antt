@@ -1,8 +1,8 @@
 -- `written::directory::put_entry` meets its contract. Assumes nothing.
 use native.Mathlib.Omega.{arith}
 use borrow.Author.Needs.{needs}
-use Rattle.written.proofs.Laid.{put-fields}
-use Rattle.written.specs.Items.{fieldsOf, entryBytes}
+use Rattle.written_items.proofs.Laid.{put-fields}
+use Rattle.written.specs.Front.{fieldsOf, entryBytes}
 use Rattle.written.proofs.directory.put_entry.Statement.{statement}
 use Rattle.written.proofs.directory.put_entry.Tie as tie
 

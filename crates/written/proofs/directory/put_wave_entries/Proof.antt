@@ -3,9 +3,9 @@ use Prim.Native.Nat.{_+_, _-_, _*_}
 use mathlib.Core.Path.{_≡_, refl}
 use native.Mathlib.Omega.{arith}
 use borrow.Author.Needs.{needs}
-use Rattle.written.specs.Items.{entryBytes, waveEntries}
-use Rattle.written.proofs.Items.{entry-size, entries-none, entries-next, entries-size}
-use Rattle.written.proofs.Writing.{Writing, starts, wrote, ends}
+use Rattle.written.specs.Front.{entryBytes, waveEntries}
+use Rattle.written.proofs.Front.{entry-size, entries-none, entries-next, entries-size}
+use Rattle.written_items.proofs.Writing.{Writing, starts, wrote, ends}
 use Rattle.written.proofs.directory.put_wave_entries.Statement.{statement}
 use Rattle.written.proofs.directory.put_wave_entries.Tie as tie
 

@@ -1,8 +1,8 @@
 -- `written::header::put_front` meets its contract. Assumes nothing.
 use native.Mathlib.Omega.{arith}
 use borrow.Author.Needs.{needs}
-use Rattle.written.proofs.Laid.{put-fields}
-use Rattle.written.specs.Items.{frontFields}
+use Rattle.written_items.proofs.Laid.{put-fields}
+use Rattle.written.specs.Front.{frontFields}
 use Rattle.written.proofs.header.put_front.Statement.{statement}
 use Rattle.written.proofs.header.put_front.Tie as tie
 

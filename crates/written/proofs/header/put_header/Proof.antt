@@ -5,8 +5,8 @@ use native.Mathlib.Omega.{arith}
 use borrow.Author.Needs.{needs}
 use lib.ListN.{length, length-append}
 use Rattle.round_trip.proofs.Places.{fields-size}
-use Rattle.written.proofs.Items.{front, counts, sizes, header-parts}
-use Rattle.written.proofs.Writing.{starts, wrote, ends}
+use Rattle.written.proofs.Front.{front, counts, sizes, header-parts}
+use Rattle.written_items.proofs.Writing.{starts, wrote, ends}
 use Rattle.written.proofs.header.put_header.Statement.{statement}
 use Rattle.written.proofs.header.put_header.Tie as tie
 

@@ -1,8 +1,8 @@
 -- `written::header::put_sizes` meets its contract. Assumes nothing.
 use native.Mathlib.Omega.{arith}
 use borrow.Author.Needs.{needs}
-use Rattle.written.proofs.Laid.{put-fields}
-use Rattle.written.specs.Items.{sizeFields}
+use Rattle.written_items.proofs.Laid.{put-fields}
+use Rattle.written.specs.Front.{sizeFields}
 use Rattle.written.proofs.header.put_sizes.Statement.{statement}
 use Rattle.written.proofs.header.put_sizes.Tie as tie
 

@@ -1,0 +1,15 @@
+-- The parts of a repacked file's opening, as bytes, by the number of PCM bytes.
+use Prim.Native.Nat.{ℕ}
+use mathlib.Core.List.{List, _++_}
+use Rattle.format.specs.Repack.{pcmFill, pcmCopy}
+use Rattle.format.specs.Written.{operationsBytes}
+use Rattle.master.specs.Result.{coreBytes}
+
+unfoldable pub fillPart : (pcm : ℕ) → List ℕ
+fillPart pcm = operationsBytes 2 (pcmFill pcm)
+
+unfoldable pub copyPart : (pcm : ℕ) → List ℕ
+copyPart pcm = operationsBytes 2 (pcmCopy pcm)
+
+unfoldable pub openingPart : (file : List ℕ) → (count pcm : ℕ) → List ℕ
+openingPart file count pcm = fillPart pcm ++ (coreBytes file count 20 ++ copyPart pcm)
