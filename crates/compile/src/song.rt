@@ -1,15 +1,15 @@
 // The entry point: the refusals 1 to 24 in their order, then the result.
-use crate::write::write_master;
 use file_check::FileAnswer;
 use file_check::check_file;
 use format::Header;
 use format::Refusal;
 use format::Rule;
-use repack::PcmRun;
 use repack::SPOTS;
 use repack::measure_frames;
-use repack::pcm_run;
+use repack_file::write_master;
 use repack_layout::lay_out;
+use repack_opening::PcmRun;
+use repack_opening::pcm_run;
 use wave_table::BUCKETS;
 use wave_table::MOST;
 ghost use mathlib.Core.Path.{_≡_};

@@ -1,21 +1,14 @@
--- What is known of a master that was measured: its PCM records, its waves, where they are used, and the size of its frames.
+-- What is known of a master that was measured: its waves, where they are used, and the size of its frames.
 use Prim.Native.Nat.{ℕ, _+_, _*_, _≤_, _<_}
 use mathlib.Core.Bool.{true}
 use mathlib.Core.List.{List, [], _++_}
 use mathlib.Core.Path.{_≡_}
 use lib.ListN.{length, getD, take}
-use Rattle.format.specs.Checked.{Checked, ok, refused}
 use Rattle.format.specs.Repack.{isKnown, placeOf}
 use Rattle.master.specs.Places.{waveAt}
 use Rattle.master.specs.Result.{pieceBytes, frameWaves, frameBytes, allWaves}
 use Rattle.master.specs.Uses.{usesAt, allUses}
 use Rattle.wave_table.specs.Table.{wavesIn, Table}
-use Rattle.repack.specs.declared.measure.PcmRun.{PcmRun}
-use Rattle.repack.specs.declared.measure.PcmRun.the-variants.{InOrder, OutOfOrder}
-
-abbrev pub pcmIn : PcmRun → Checked ℕ
-pcmIn (InOrder count) = ok count
-pcmIn OutOfOrder = refused 22 0
 
 -- the first so many uses are noted, each with the number of its wave; behind them no place is noted
 pub record Noted (file places spots numbers : List ℕ) (waves uses : ℕ) : Type 0 where

@@ -20,7 +20,7 @@ use Rattle.wave_table.specs.Table.{wavesIn}
 use Rattle.master.specs.Result.{pcmBytes, coreBytes, frameBytes, allWaves}
 use Rattle.master.proofs.Pieces.{records-count}
 use Rattle.master.proofs.Result.{frame-bytes-size}
-use Rattle.written.specs.Front.{directoryOf}
+use Rattle.written_directory.specs.Directory.{directoryOf}
 use Rattle.repack_payloads.specs.Payloads.{wavesBytes}
 use Rattle.repack_opening.specs.Opening.{fillPart, copyPart, openingPart}
 use Rattle.repack_payloads.proofs.Payloads.{waves-size}

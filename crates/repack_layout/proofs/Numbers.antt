@@ -12,8 +12,8 @@ use Rattle.format.specs.Repack.{pcmFill}
 use Rattle.format.specs.Written.{headerFields}
 use Rattle.round_trip.proofs.Places.{fields-size}
 use Rattle.master.specs.Result.{pcmBytes}
-use Rattle.written.specs.Front.{directoryOf}
-use Rattle.written.proofs.Front.{directory-none, directory-some}
+use Rattle.written_directory.specs.Directory.{directoryOf}
+use Rattle.written_directory.proofs.Directory.{directory-none, directory-some}
 use Rattle.repack_payloads.specs.Payloads.{wavesBytes}
 use Rattle.repack_payloads.proofs.Payloads.{waves-size}
 use Rattle.repack_layout.specs.declared.Layout.{Layout}

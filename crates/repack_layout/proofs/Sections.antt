@@ -21,7 +21,7 @@ use Rattle.master.specs.Places.{framesAt, behindFrame}
 use Rattle.master.specs.Places.{waveAt}
 use Rattle.master.specs.Result.{pcmBytes, coreBytes}
 use Rattle.master.proofs.Result.{pcm-byte, pcm-skip, core-item, core-skip, opening-none, write-size}
-use Rattle.written.specs.Front.{entryBytes, waveEntries, directoryOf}
+use Rattle.written_directory.specs.Directory.{entryBytes, waveEntries, directoryOf}
 use Rattle.repack_payloads.specs.Payloads.{wavesBytes}
 use Rattle.repack_opening.specs.Opening.{fillPart, copyPart}
 use Rattle.repack_payloads.proofs.Payloads.{wave-size}

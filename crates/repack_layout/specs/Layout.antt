@@ -10,7 +10,7 @@ use Rattle.format.specs.Written.{headerFields}
 use Rattle.master.specs.Places.{framesEnd}
 use Rattle.master.specs.Result.{pcmBytes}
 use Rattle.repack.specs.Measured.{Measured}
-use Rattle.written.specs.Front.{directoryOf}
+use Rattle.written_directory.specs.Directory.{directoryOf}
 use Rattle.repack_payloads.specs.Payloads.{wavesBytes, AllInside}
 use Rattle.repack_opening.specs.Opening.{fillPart, copyPart}
 use Rattle.repack_layout.specs.declared.Layout.{Layout}

@@ -1,4 +1,6 @@
-// The opening of a repacked file: a FILL of the PCM memory that was not written, the core records, a COPY of the PCM bytes.
+// The opening: whether a master's PCM records are in order, and the opening of its repacked file: a FILL of the PCM memory that was
+// not written, the core records, a COPY of the PCM bytes.
+use big_endian::read_u24;
 use written_items::put_copy;
 use written_items::put_fill;
 use written_items::put_record;
@@ -6,11 +8,39 @@ ghost use mathlib.Core.Path.{_≡_};
 ghost use Prim.Native.Nat.{_+_, _*_, _≤_, _<_};
 ghost use lib.ListN.{length};
 ghost use Rattle.big_endian.specs.Put.{put};
-ghost use Rattle.master.specs.Result.{coreBytes};
-ghost use Rattle.repack_opening.specs.Opening.{fillPart, copyPart, openingPart};
+ghost use Rattle.master.specs.Places.{recordsAt};
+ghost use Rattle.master.specs.Result.{pcmFrom, coreBytes};
+ghost use Rattle.repack_opening.specs.Opening.{fillPart, copyPart, openingPart, pcmIn};
 
 // The bytes of PCM memory.
 const PCM_SIZE: usize = 1048576;
+
+// The opening's PCM records: how many there are, if their addresses run 0, 1, 2 and so on.
+pub enum PcmRun {
+    InOrder(usize),
+    OutOfOrder,
+}
+
+// The PCM records of an opening of so many records.
+pub fn pcm_run(file: &[u8], count: usize) -> PcmRun
+    requires { ⌜ 20 + count * 5 ≤ length (now file) ⌝ }
+    ensures { λ r. ⌜ pcmIn r ≡ pcmFrom 0 (recordsAt (now (file .entry)) count 20) ⌝ }
+{
+    let mut at: usize = 20;
+    let mut left = count;
+    let mut pcm: usize = 0;
+    while 0 < left {
+        if file[at] == 2 {
+            if read_u24(file, at + 1) as usize != pcm {
+                return PcmRun::OutOfOrder;
+            }
+            pcm += 1;
+        }
+        at += 5;
+        left -= 1;
+    }
+    PcmRun::InOrder(pcm)
+}
 
 // How many bytes the FILL takes.
 pub fn fill_size(pcm: usize) -> usize

@@ -1,29 +1,15 @@
--- The table of the waves that are known: the place of each one's first use, and chains of the waves that share a bucket. A bucket is a
--- number that is computed once a wave from all its bytes; it tells waves apart, and nothing is said of how well.
-use Prim.Native.Nat.{ℕ, zero, suc, _+_, _*_, _/_, _%_, _≤_, _<_}
+-- The table of the waves that are known: the place of each one's first use, and chains of the waves that share a bucket.
+use Prim.Native.Nat.{ℕ, zero, suc, _+_, _≤_, _<_}
 use mathlib.Core.Bool.{false, cond}
 use mathlib.Core.List.{List, [], _∷_, _++_, map}
 use mathlib.Core.Path.{_≡_}
 use lib.Dec.{eqb}
 use lib.ListN.{length, getD, take}
-use Rattle.format.specs.Bytes.{byte, sameBytes}
+use Rattle.format.specs.Bytes.{sameBytes}
 use Rattle.format.specs.Repack.{isKnown, placeOf}
 use Rattle.master.specs.Places.{waveAt}
 use Rattle.master.specs.Result.{added}
-
--- a hash with four bytes more
-unfoldable pub mixed : (hash a b c d : ℕ) → ℕ
-mixed hash a b c d = (hash + (a + b * 256 + c * 65536 + d * 16777216)) * 1640531527 % 4294967296
-
--- a hash with the values of four times so many records from a place
-unfoldable pub hashed : List ℕ → (fours at hash : ℕ) → ℕ
-hashed file zero at hash = hash
-hashed file (suc fours) at hash =
-    hashed file fours (at + 20) (mixed hash (byte file (at + 4)) (byte file (at + 9)) (byte file (at + 14)) (byte file (at + 19)))
-
--- the bucket of the wave at a place, below 16,384
-unfoldable pub bucketAt : List ℕ → (at : ℕ) → ℕ
-bucketAt file at = hashed file 64 at 0 / 262144
+use Rattle.wave_hash.specs.Hash.{bucketAt}
 
 -- the first so many waves of the table
 abbrev pub wavesIn : (file places : List ℕ) → (count : ℕ) → List (List ℕ)

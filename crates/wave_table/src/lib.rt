@@ -1,74 +1,19 @@
 // The waves of a master, told apart by their bytes: a table of the places where each was first used, with chains of the waves that
 // share a bucket.
+use wave_hash::bucket;
+use wave_hash::same_wave;
 ghost use mathlib.Core.Path.{_≡_};
 ghost use Prim.Native.Nat.{_+_, _*_, _≤_, _<_};
 ghost use lib.ListN.{length};
-ghost use Rattle.format.specs.Bytes.{sameBytes};
 ghost use Rattle.format.specs.Repack.{placeOf};
 ghost use Rattle.master.specs.Places.{waveAt};
-ghost use Rattle.wave_table.specs.Table.{mixed, bucketAt, wavesIn, found, Chain, Table, Added};
+ghost use Rattle.wave_hash.specs.Hash.{bucketAt};
+ghost use Rattle.wave_table.specs.Table.{wavesIn, found, Chain, Table, Added};
 
 // The buckets, and the most waves that a file of 0xE00000 bytes holds: each takes 256 records of 5 bytes.
 pub const BUCKETS: usize = 16384;
 
 pub const MOST: usize = 11468;
-
-// Whether two waves have the same bytes.
-fn same_wave(file: &[u8], a: usize, b: usize) -> bool
-    requires { ⌜ (a + 1280 ≤ length (now file)) × (b + 1280 ≤ length (now file)) ⌝ }
-    ensures { λ r. ⌜ r ≡ sameBytes (waveAt (now (file .entry)) a) (waveAt (now (file .entry)) b) ⌝ }
-{
-    let mut left: usize = 256;
-    let mut one = a;
-    let mut other = b;
-    while 0 < left {
-        if file[one + 4] != file[other + 4] {
-            return false;
-        }
-        one += 5;
-        other += 5;
-        left -= 1;
-    }
-    true
-}
-
-// A byte as a part of a hash.
-fn wide(x: u8) -> u64
-    ensures { λ r. ⌜ (r ≡ x) × (r < 256) ⌝ }
-{
-    x as u64
-}
-
-// A hash with four bytes more.
-fn mix(hash: u64, a: u8, b: u8, c: u8, d: u8) -> u64
-    requires { ⌜ hash < 4294967296 ⌝ }
-    ensures { λ r. ⌜ (r ≡ mixed hash a b c d) × (r < 4294967296) ⌝ }
-{
-    let four = wide(a) + wide(b) * 256 + wide(c) * 65536 + wide(d) * 16777216;
-    (hash + four) * 1640531527 % 4294967296
-}
-
-// The bucket of a wave.
-fn bucket(file: &[u8], at: usize) -> usize
-    requires { ⌜ at + 1280 ≤ length (now file) ⌝ }
-    ensures { λ r. ⌜ r ≡ bucketAt (now (file .entry)) at ⌝ }
-{
-    let mut hash = 0;
-    let mut left: usize = 64;
-    let mut place = at;
-    while 0 < left {
-        hash = mix(
-            hash,
-            file[place + 4],
-            file[place + 9],
-            file[place + 14],
-            file[place + 19],
-        );
-        place += 20;
-        left -= 1;
-    }
-    (hash / 262144) as usize
-}
 
 // The wave of a chain that has the bytes of the wave at a place, counted from 1, or 0.
 fn find_wave(

@@ -1,7 +1,8 @@
 -- `wave_table::add_wave` meets its contract. Assumes nothing.
 use native.Mathlib.Omega.{arith}
 use borrow.Author.Needs.{needs}
-use Rattle.wave_table.proofs.Table.{bucket-below, added-known, added-new}
+use Rattle.wave_hash.proofs.Hash.{bucket-below}
+use Rattle.wave_table.proofs.Table.{added-known, added-new}
 use Rattle.wave_table.proofs.add_wave.Statement.{statement}
 use Rattle.wave_table.proofs.add_wave.Tie as tie
 

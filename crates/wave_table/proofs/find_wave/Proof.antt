@@ -3,7 +3,8 @@ use Prim.Native.Nat.{_+_, _-_, _≤_}
 use mathlib.Core.Path.{_≡_, refl, sym, _∙_}
 use native.Mathlib.Omega.{arith}
 use lib.ListN.{length, getD}
-use Rattle.wave_table.specs.Table.{bucketAt, latest, found}
+use Rattle.wave_hash.specs.Hash.{bucketAt}
+use Rattle.wave_table.specs.Table.{latest, found}
 use Rattle.wave_table.proofs.Table.{Stepped, chain-here, chain-step}
 use Rattle.wave_table.proofs.find_wave.Statement.{statement}
 use Rattle.wave_table.proofs.find_wave.Tie as tie

@@ -1,7 +1,8 @@
 -- `wave_table::wave_number` meets its contract. Assumes nothing.
 use mathlib.Core.Path.{sym, _∙_}
 use native.Mathlib.Omega.{arith}
-use Rattle.wave_table.proofs.Table.{bucket-below, head-few, chain-of, chain-finds, place-found, place-missing}
+use Rattle.wave_hash.proofs.Hash.{bucket-below}
+use Rattle.wave_table.proofs.Table.{head-few, chain-of, chain-finds, place-found, place-missing}
 use Rattle.wave_table.proofs.wave_number.Statement.{statement}
 use Rattle.wave_table.proofs.wave_number.Tie as tie
 
