@@ -1,8 +1,8 @@
 -- Laws of frames by the numbers of their waves: piece by piece, frame by frame, and that they are the frames of the repacked file.
-use Prim.Native.Nat.{ℕ, zero, suc, _+_, _*_, _-_, _≤_, _<_}
+use Prim.Native.Nat.{ℕ, zero, suc, _+_, _-_, _≤_, _<_}
 use mathlib.Core.Path.{_≡_, refl, sym, ap, _∙_}
 use mathlib.Core.Bool.{Bool, true, false}
-use mathlib.Core.List.{List, [], _∷_, _++_, append-assoc}
+use mathlib.Core.List.{List, [], _++_, append-assoc}
 use native.Mathlib.Nat.{not-suc-le-zero}
 use native.Mathlib.Omega.{arith}
 use lib.ListN.{length, getD, length-append}
@@ -14,7 +14,7 @@ use Rattle.round_trip.proofs.Places.{length-bytesOf}
 use Rattle.master.specs.Places.{recordOf, recordsAt, behindFrame, waveAt}
 use Rattle.master.specs.Result.{pieceCount, pieceBytes, frameBytes}
 use Rattle.master.specs.Uses.{usesAt, allUses, Marked, MarkedFrames, numbered, piecesBy, frameBy, framesBy}
-use Rattle.master.proofs.Pieces.{wave-long, wave-next, single-next}
+use Rattle.master.proofs.Pieces.{wave-next, single-next}
 use Rattle.master.proofs.Result.{bytes-none, bytes-wave, bytes-single, frames-none, frames-next, write-size, copy-size}
 use Rattle.master.proofs.Uses.{uses-wave, uses-single, all-uses-next, wave-marked, behind-wave, behind-single, frame-marked, frames-marked}
 

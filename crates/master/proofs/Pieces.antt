@@ -3,7 +3,7 @@ use Prim.Native.Nat.{ℕ, zero, suc, _+_, _*_, _-_, _%_, _≤_, _<_}
 use mathlib.Core.Path.{_≡_, refl, sym, ap, _∙_}
 use mathlib.Core.Bool.{Bool, true, false, _&&_, false≢true}
 use mathlib.Core.List.{List, [], _∷_, map}
-use native.Mathlib.Nat.{add-zero, le-of-suc-le-suc, not-suc-le-zero}
+use native.Mathlib.Nat.{le-of-suc-le-suc, not-suc-le-zero}
 use native.Mathlib.Numerals.{add-one}
 use native.Mathlib.Omega.{arith}
 use borrow.Author.Tests.{eq-eqb}
@@ -11,8 +11,7 @@ use lib.Dec.{eqb, ltb}
 use lib.ListN.{length, take, drop}
 use Rattle.format.specs.declared.operation.Operation.{Operation}
 use Rattle.format.specs.Bytes.{byte, be, sameBytes}
-use Rattle.format.specs.Repack.{Piece, wave, single, address, value, runs, startsWave, pieces}
-use Rattle.format.specs.Writes.{targetNumber}
+use Rattle.format.specs.Repack.{Piece, wave, single, value, runs, startsWave, pieces}
 use Rattle.format.proofs.Checks.{and-true}
 use Rattle.master.specs.Places.{recordOf, recordsAt, valuesAt, waveAt}
 

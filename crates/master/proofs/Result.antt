@@ -1,7 +1,7 @@
 -- Laws of the parts of a repacked file: record by record, piece by piece, frame by frame.
-use Prim.Native.Nat.{ℕ, zero, suc, _+_, _*_, _-_, _<_}
-use mathlib.Core.Path.{_≡_, refl, sym, ap, _∙_, subst}
-use mathlib.Core.Bool.{Bool, true, false, cond, not, _&&_}
+use Prim.Native.Nat.{ℕ, zero, suc, _+_, _-_, _<_}
+use mathlib.Core.Path.{_≡_, refl, sym, ap, _∙_}
+use mathlib.Core.Bool.{Bool, true, false, cond, not}
 use mathlib.Core.List.{List, [], _∷_, _++_, map, append-nil}
 use native.Mathlib.Nat.{not-suc-le-zero, add-zero}
 use native.Mathlib.Numerals.{add-one}
@@ -11,10 +11,10 @@ use lib.Dec.{eqb}
 use lib.ListN.{length, length-append, length-map}
 use Rattle.format.specs.declared.operation.Operation.{Operation}
 use Rattle.format.specs.declared.operation.Operation.the-variants.{Write, Copy}
-use Rattle.format.specs.Bytes.{byte, be, bytesOf, bytesOfAll, u16}
-use Rattle.format.specs.Checked.{Checked, ok, refused, refuse, _>>_}
+use Rattle.format.specs.Bytes.{byte, be, bytesOf, bytesOfAll}
+use Rattle.format.specs.Checked.{ok, refused, _>>_}
 use Rattle.format.specs.Operation.{addressWidth}
-use Rattle.format.specs.Repack.{Piece, wave, single, value, toPcm, toCores, inOrder, startsWave, pieces, distinct, wavesOf, placeOf, packedPiece}
+use Rattle.format.specs.Repack.{Piece, wave, single, toPcm, toCores, inOrder, startsWave, pieces, distinct, wavesOf, placeOf, packedPiece}
 use Rattle.format.specs.Written.{itemBytes, operationsBytes, framesBytes}
 use Rattle.round_trip.proofs.Places.{fields-size, length-bytesOf}
 use Rattle.master.specs.Places.{recordOf, recordsAt, framesAt, behindFrame, waveAt}

@@ -1,11 +1,10 @@
 -- The parts of a repacked file that come from a master's records, at their places, as bytes.
-use Prim.Native.Nat.{ℕ, _+_, _*_, _≤_}
+use Prim.Native.Nat.{ℕ, _+_}
 use mathlib.Core.Bool.{not, cond}
 use mathlib.Core.List.{List, [], _∷_, _++_, map}
-use mathlib.Core.Path.{_≡_}
 use lib.ListN.{length}
 use Rattle.format.specs.declared.operation.Operation.{Operation}
-use Rattle.format.specs.Checked.{Checked, ok, refused, refuse, _>>_}
+use Rattle.format.specs.Checked.{Checked, ok, refuse, _>>_}
 use Rattle.format.specs.Repack.{value, toPcm, toCores, inOrder, pieces, isKnown, distinct, wavesOf, packedPiece}
 use Rattle.format.specs.Written.{operationsBytes, framesBytes}
 use Rattle.master.specs.Places.{recordsAt, framesAt}

@@ -8,7 +8,7 @@ use lib.ListN.{length}
 use lib.Seq.{length-take-le}
 use Rattle.format.specs.declared.header.Header.{Header}
 use Rattle.master.specs.Result.{frameBytes}
-use Rattle.master.specs.Uses.{allUses, MarkedFrames, framesBy}
+use Rattle.master.specs.Uses.{MarkedFrames, framesBy}
 use Rattle.master.proofs.Numbered.{frames-by-is}
 use Rattle.master.proofs.Uses.{all-marked}
 use Rattle.wave_table.specs.Table.{wavesIn}

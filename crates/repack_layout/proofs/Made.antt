@@ -26,7 +26,8 @@ use Rattle.repack_opening.specs.Opening.{fillPart, copyPart, openingPart}
 use Rattle.repack_payloads.proofs.Payloads.{waves-size}
 use Rattle.repack_layout.specs.declared.Layout.{Layout}
 use Rattle.repack_layout.specs.Layout.{pcmPool, layoutOf, newHeader, Known, frontOf, FrontFits}
-use Rattle.repack_layout.proofs.Sections.{operations-append, payloads-append, five-size, pcm-payload, pcm-pools, pcm-copies, fills-few, copies-few, waves-payload, directory-of, record-each, split-count, frames-count}
+use Rattle.master.proofs.Sections.{operations-append, payloads-append, five-size, pcm-payload, record-each, split-count, frames-count}
+use Rattle.repack_layout.proofs.Sections.{pcm-pools, pcm-copies, fills-few, copies-few, waves-payload, directory-of}
 
 -- ---- the stream
 

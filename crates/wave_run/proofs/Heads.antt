@@ -1,17 +1,14 @@
 -- Target and address of a record as one number, and records in a part of a file.
 use Prim.Native.Nat.{ℕ, zero, suc, _+_, _*_, _≤_, _<_}
-use mathlib.Core.Path.{_≡_, refl, sym, ap, _∙_}
+use mathlib.Core.Path.{_≡_, refl}
 use mathlib.Core.Bool.{Bool, true, false, _&&_}
-use mathlib.Core.List.{List, _∷_}
-use native.Mathlib.Nat.{add-zero, add-assoc}
+use mathlib.Core.List.{List}
 use native.Mathlib.Omega.{arith}
 use borrow.Author.Tests.{eqb-true, ne-eqb}
 use lib.Dec.{eqb}
-use lib.ListN.{length}
-use Rattle.format.specs.declared.operation.Operation.{Operation}
 use Rattle.format.specs.Bytes.{byte, be, part}
 use Rattle.format.proofs.Bytes.{AllBytes, be-below, byte-part, be-part}
-use Rattle.master.specs.Places.{recordOf, recordsAt}
+use Rattle.master.specs.Places.{recordsAt}
 
 module _ (file : List ℕ) (at : ℕ) where
   -- the four bytes of target and address

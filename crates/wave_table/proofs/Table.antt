@@ -1,22 +1,22 @@
 -- Laws of the table of waves: what the chain of a bucket finds, and what adding a wave makes of it.
-use Prim.Native.Nat.{ℕ, zero, suc, _+_, _*_, _-_, _/_, _≤_, _<_}
+use Prim.Native.Nat.{ℕ, zero, suc, _+_, _-_, _≤_, _<_}
 use mathlib.Core.Path.{_≡_, refl, sym, ap, _∙_}
 use mathlib.Core.Bool.{Bool, true, false, cond, not, _||_, true≢false, false≢true, or-true, or-false}
 use mathlib.Core.List.{List, [], _∷_, _++_, map}
-use native.Mathlib.Nat.{not-suc-le-zero, add-assoc, le-refl, mod-lt}
+use native.Mathlib.Nat.{not-suc-le-zero, le-refl}
 use native.Mathlib.Numerals.{add-one}
 use native.Mathlib.Decide.{ℕ-discrete}
 use native.Mathlib.Omega.{arith}
-use borrow.Author.Tests.{eq-eqb, ne-eqb, eqb-true, eqb-false, lt-ltb, le-ltb, ltb-false}
+use borrow.Author.Tests.{eq-eqb, ne-eqb, eqb-true, eqb-false, lt-ltb, le-ltb}
 use borrow.Author.Count.{below-more}
-use lib.Dec.{eqb, ltb, lit<}
+use lib.Dec.{eqb, ltb}
 use lib.ListN.{length, getD, take, set, replicate, length-set, length-map, length-replicate, getD-replicate}
-use lib.Seq.{take-suc, length-take-le, getD-set-same, getD-set-other, take-set-le, take-suc-set}
-use Rattle.format.specs.Bytes.{byte, sameBytes}
+use lib.Seq.{take-suc, length-take-le, getD-set-same, getD-set-other, take-set-le}
+use Rattle.format.specs.Bytes.{sameBytes}
 use Rattle.format.specs.Repack.{isKnown, placeOf}
-use Rattle.format.proofs.Same.{same-bytes, bytes-self}
+use Rattle.format.proofs.Same.{same-bytes}
 use Rattle.round_trip.proofs.Waves.{known-place}
-use Rattle.master.specs.Places.{valuesAt, waveAt}
+use Rattle.master.specs.Places.{waveAt}
 use Rattle.master.specs.Result.{added}
 use Rattle.wave_hash.specs.Hash.{bucketAt}
 use Rattle.wave_hash.proofs.Hash.{same-bucket, bucket-below}

@@ -21,8 +21,6 @@ use Rattle.written_items.specs.Items.{copyBytes}
 use Rattle.written_items.proofs.Writing.{Writing, starts, wrote, ends}
 use Rattle.repack_frames.proofs.put_pieces.Statement.{statement}
 use Rattle.repack_frames.proofs.put_pieces.Tie as tie
-use Rattle.repack_frames.proofs.put_pieces.Reads as reads
-use Rattle.repack_frames.proofs.put_pieces.Lts as lts
 
 abbrev Inv-loop : tie.InvT-loop
 Inv-loop file start count base spots numbers used buffer₀ at from₀ left₀ place₀ pieces₀ uses₀ buffer from left place pieces uses =

@@ -1,35 +1,23 @@
 -- `repack_frames::put_wave_copy` meets its contract. Assumes nothing.
 use borrow.Author.Needs.{needs}
-use native.Mathlib.Omega.{arith}
-use borrow.Author.Needs.{needs}
 use Rattle.repack_frames.proofs.put_wave_copy.Statement.{statement}
 use Rattle.repack_frames.proofs.put_wave_copy.Tie as tie
-use Rattle.repack_frames.proofs.put_wave_copy.Reads as reads
-use Rattle.repack_frames.proofs.put_wave_copy.Lts as lts
-use Rattle.big_endian.proofs.read_u24.Reads as read-u24-reads
-use Rattle.written_items.proofs.put_copy.Reads as put-copy-reads
 
--- src/lib.rt:33:34
 add-read-u24 : tie.Need-add-read-u24
 add-read-u24 c = search needs
 
--- src/lib.rt:33:9
 read-u24-requires : tie.Need-read-u24-requires
 read-u24-requires c κs = search needs
 
--- src/lib.rt:34:26
 shared-slice-read-put-copy : tie.Need-shared-slice-read-put-copy
 shared-slice-read-put-copy c = search needs
 
--- src/lib.rt:34:5
 put-copy-requires : tie.Need-put-copy-requires
 put-copy-requires c κs = search needs
 
--- src/lib.rt:29:1
 same-length : tie.Need-same-length
 same-length c = search needs
 
--- src/lib.rt:29:1
 returns : tie.Need-returns
 returns c = rw (← (c .before .before .before .before .before .read-u24 .ensures)) (c .before .before .put-copy .ensures)
 

@@ -5,7 +5,6 @@ use mathlib.Core.Logic.{⊎-elim}
 use native.Mathlib.Omega.{arith}
 use borrow.Author.Needs.{needs}
 use lib.ListN.{length}
-use Rattle.format.proofs.Bytes.{be-within}
 use Rattle.master.specs.Places.{recordsAt}
 use Rattle.master.specs.Result.{pcmFrom}
 use Rattle.master.proofs.Result.{pcm-none, pcm-more, pcm-wrong, pcm-other}

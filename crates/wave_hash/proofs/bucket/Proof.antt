@@ -1,6 +1,6 @@
 -- `wave_hash::bucket` meets its contract: the records still to take decide. Assumes nothing.
-use Prim.Native.Nat.{_+_, _*_, _/_, _≤_, _<_}
-use mathlib.Core.Path.{_≡_, refl, ap, _∙_}
+use Prim.Native.Nat.{_+_, _*_, _≤_, _<_}
+use mathlib.Core.Path.{_≡_, refl, _∙_}
 use native.Mathlib.Omega.{arith}
 use lib.ListN.{length}
 use Rattle.wave_hash.specs.Hash.{hashed, bucketAt}

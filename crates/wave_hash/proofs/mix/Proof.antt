@@ -1,5 +1,4 @@
 -- `wave_hash::mix` meets its contract. Assumes nothing.
-use mathlib.Core.Path.{_≡_}
 use native.Mathlib.Nat.{mod-lt}
 use borrow.Author.Needs.{needs}
 use lib.Dec.{lit<}

@@ -1,8 +1,7 @@
 -- `wave_run::runs_on` meets its contract: the records still to look at decide. Assumes nothing.
-use Prim.Native.Nat.{_+_, _-_, _*_, _≤_, _<_}
-use mathlib.Core.Path.{_≡_, refl, sym, _∙_}
+use Prim.Native.Nat.{_+_, _-_, _*_, _≤_}
+use mathlib.Core.Path.{_≡_, sym, _∙_}
 use native.Mathlib.Nat.{add-zero}
-use lib.ListN.{length}
 use Rattle.format.specs.Repack.{runs}
 use Rattle.format.proofs.Bytes.{AllBytes}
 use Rattle.master.specs.Places.{recordsAt}
@@ -12,9 +11,6 @@ use borrow.Author.Needs.{needs}
 use native.Mathlib.Omega.{arith}
 use Rattle.wave_run.proofs.runs_on.Statement.{statement}
 use Rattle.wave_run.proofs.runs_on.Tie as tie
-use Rattle.wave_run.proofs.runs_on.Reads as reads
-use Rattle.wave_run.proofs.runs_on.Lts as lts
-use Rattle.big_endian.proofs.read_u32.Reads as read-u32-reads
 
 abbrev Inv-loop : tie.InvT-loop
 Inv-loop records target address left₀ place₀ head₀ left place head =
@@ -26,23 +22,18 @@ Inv-loop records target address left₀ place₀ head₀ left place head =
 abbrev μ-loop : tie.MeasureT-loop
 μ-loop records target address left₀ place₀ head₀ left place head = left
 
--- src/lib.rt:17:20
 mul-head : tie.Need-mul-head Inv-loop μ-loop
 mul-head c = search needs
 
--- src/lib.rt:17:20
 add-head : tie.Need-add-head Inv-loop μ-loop
 add-head c = search needs
 
--- src/lib.rt:18:5
 loop-holds : tie.Need-loop-holds Inv-loop μ-loop
 loop-holds c = (omega arith, omega arith, omega arith, rw add-zero)
 
--- src/lib.rt:19:12
 read-u32-requires : tie.Need-read-u32-requires Inv-loop μ-loop
 read-u32-requires c κs = search needs
 
--- src/lib.rt:20:13
 returns : tie.Need-returns Inv-loop μ-loop
 returns c =
     let l = c .before .before .before .loop in
@@ -52,23 +43,18 @@ returns c =
     let some = c .before .before .loop-test .taken in
     rw (l .inv .3, runs-not (a .records .now) (l .left) (a .target) from (l .place) some (head-differs (a .records .now) (l .place) bytes (a .target) from (omega arith) (λ e. c .if1 .taken (c .before .read-u32 .ensures ∙ e ∙ omega arith))))
 
--- src/lib.rt:22:9
 add-place : tie.Need-add-place Inv-loop μ-loop
 add-place c = search needs
 
--- src/lib.rt:23:9
 add-head-2 : tie.Need-add-head-2 Inv-loop μ-loop
 add-head-2 c = search needs
 
--- src/lib.rt:24:9
 sub-left : tie.Need-sub-left Inv-loop μ-loop
 sub-left c = search needs
 
--- src/lib.rt:18:5
 loop-less : tie.Need-loop-less Inv-loop μ-loop
 loop-less c = search needs
 
--- src/lib.rt:18:5
 loop-again : tie.Need-loop-again Inv-loop μ-loop
 loop-again c =
     let l = c .before .before .before .loop in
@@ -80,7 +66,6 @@ loop-again c =
     let next : a .address + (256 - (l .left - 1)) ≡ from + 1 = omega arith in
     (omega arith, omega arith, omega arith, rw next (l .inv .3 ∙ runs-next (a .records .now) (l .left) (a .target) from (l .place) some (same .0) (same .1)))
 
--- src/lib.rt:11:1
 returns-2 : tie.Need-returns-2 Inv-loop μ-loop
 returns-2 c =
     let l = c .before .loop in

@@ -1,8 +1,8 @@
 -- `wave_table::find_wave` meets its contract: what the rest of the chain finds decides. Assumes nothing.
-use Prim.Native.Nat.{_+_, _-_, _≤_}
+use Prim.Native.Nat.{_-_, _≤_}
 use mathlib.Core.Path.{_≡_, refl, sym, _∙_}
 use native.Mathlib.Omega.{arith}
-use lib.ListN.{length, getD}
+use lib.ListN.{getD}
 use Rattle.wave_hash.specs.Hash.{bucketAt}
 use Rattle.wave_table.specs.Table.{latest, found}
 use Rattle.wave_table.proofs.Table.{Stepped, chain-here, chain-step}
