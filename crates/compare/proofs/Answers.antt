@@ -18,7 +18,7 @@ use Rattle.format.specs.Writes.{openingWrites}
 use Rattle.format.proofs.Accepted.{Accepted, accepted}
 use Rattle.format.proofs.Checks.{ok-is, refused-not-ok}
 use Rattle.format.proofs.Compared.{version-read, reads-version}
-use Rattle.repack.proofs.Master.{IsMaster, is-master}
+use Rattle.master.proofs.Master.{IsMaster, is-master}
 use Rattle.image_store.proofs.Image.{played-length}
 use Rattle.compare.specs.Accepted.{masterDrawn, otherDrawn, agreeBy}
 use Rattle.compare.specs.Answer.{versionHeader}

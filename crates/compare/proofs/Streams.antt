@@ -20,8 +20,8 @@ use Rattle.format.proofs.Accepted.{Accepted, settingFor}
 use Rattle.format.proofs.Checks.{ok-is}
 use Rattle.format.proofs.Same.{same-count}
 use Rattle.format.proofs.Steps.{frame-step}
-use Rattle.repack.specs.Places.{recordsAt, framesAt, behindFrame}
-use Rattle.repack.proofs.Master.{IsMaster}
+use Rattle.master.specs.Places.{recordsAt, framesAt, behindFrame}
+use Rattle.master.proofs.Master.{IsMaster}
 use Rattle.spans.specs.Segments.{recordWrite, recordWrites}
 use Rattle.spans.proofs.Streams.{operations-are}
 use Rattle.same.specs.Match.{samePart, sameFramesAt}

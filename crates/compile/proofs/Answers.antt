@@ -18,13 +18,14 @@ use Rattle.format.proofs.Accepted.{accepted}
 use Rattle.format.proofs.Checks.{ok-is, refused-not-ok}
 use Rattle.big_endian.specs.Put.{put}
 use Rattle.big_endian.proofs.Laws.{put-fits}
-use Rattle.repack.specs.Places.{recordsAt, masterOf}
-use Rattle.repack.specs.Result.{pcmFrom, pcmBytes, Measured}
-use Rattle.repack.proofs.Master.{Lies, IsMaster, is-master, repacked-master}
+use Rattle.master.specs.Places.{recordsAt, masterOf}
+use Rattle.master.specs.Result.{pcmFrom, pcmBytes}
+use Rattle.repack.specs.Measured.{Measured}
+use Rattle.master.proofs.Master.{Lies, IsMaster, is-master, repacked-master}
 use Rattle.compile.specs.declared.song.Repacked.{Repacked}
 use Rattle.compile.specs.declared.song.Repacked.the-variants.{Written}
 use Rattle.compile.specs.Answer.{repackedOf, Taken, Ordered, Repacks}
-use Rattle.compile.specs.Layout.{Known}
+use Rattle.repack_layout.specs.Layout.{Known}
 
 -- a refusal writes nothing
 pub refuses : (file buffer : List ℕ) (number place : ℕ) (answer : Repacked) → repackInto file (length buffer) ≡ refused number place → repackedOf answer ≡ refused number place
@@ -125,8 +126,8 @@ module _ {file : List ℕ} {header : Header} {pcm : ℕ} (o : Ordered file heade
   pcm-length = length-map (toPcm (recordsAt file (header .«initial_count») 20)) value ∙ pcm-said (recordsAt file (header .«initial_count») 20) pcm (o .run) .1
 
   -- with what was measured
-  pub known-of : {heads next places : List ℕ} {waves size : ℕ} → Measured file (20 + header .«initial_count» * 5) (header .«frame_count») heads next places waves size
-      → Known file header heads next places pcm waves size
+  pub known-of : {places spots numbers : List ℕ} {waves uses size : ℕ} → Measured file (20 + header .«initial_count» * 5) (header .«frame_count») places spots numbers waves uses size
+      → Known file header places spots numbers pcm waves uses size
   known-of measured =
       record { pcm-is = pcm-length; measured = measured; opening-fits = here .opening-fits; frames-fit = here .frames-fit; small = here .small }
 

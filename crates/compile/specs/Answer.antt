@@ -10,8 +10,8 @@ use Rattle.format.specs.Header.{headerOf}
 use Rattle.format.specs.Repack.{repackInto, bufferAfter}
 use Rattle.format.specs.Rule.{numberOf, refusal}
 use Rattle.format.specs.Stream.{Stream, read}
-use Rattle.repack.specs.Places.{recordsAt}
-use Rattle.repack.specs.Result.{pcmFrom}
+use Rattle.master.specs.Places.{recordsAt}
+use Rattle.master.specs.Result.{pcmFrom}
 use Rattle.compile.specs.declared.song.Repacked.{Repacked}
 use Rattle.compile.specs.declared.song.Repacked.the-variants.{Written, Refused}
 

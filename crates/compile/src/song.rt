@@ -1,16 +1,17 @@
 // The entry point: the refusals 1 to 24 in their order, then the result.
-use crate::layout::lay_out;
-use crate::write::write_master;
 use file_check::FileAnswer;
 use file_check::check_file;
 use format::Header;
 use format::Refusal;
 use format::Rule;
-use repack::BUCKETS;
-use repack::MOST;
-use repack::PcmRun;
+use repack::SPOTS;
 use repack::measure_frames;
-use repack::pcm_run;
+use repack_file::write_master;
+use repack_layout::lay_out;
+use repack_opening::PcmRun;
+use repack_opening::pcm_run;
+use wave_table::BUCKETS;
+use wave_table::MOST;
 ghost use mathlib.Core.Path.{_≡_};
 ghost use lib.ListN.{length};
 ghost use Rattle.format.specs.Checked.{mapped};
@@ -40,8 +41,19 @@ fn repack_measured(file: &[u8], header: Header, pcm: usize, buffer: &mut [u8]) -
     let mut heads = [0; BUCKETS];
     let mut next = [0; MOST];
     let mut places = [0; MOST];
+    let mut spots = [0; SPOTS];
+    let mut numbers = [0; MOST];
     let start = 20 + records * 5;
-    let found = measure_frames(file, start, frames, &mut heads, &mut next, &mut places);
+    let found = measure_frames(
+        file,
+        start,
+        frames,
+        &mut heads,
+        &mut next,
+        &mut places,
+        &mut spots,
+        &mut numbers,
+    );
     let layout = lay_out(records, pcm, found.waves, found.size);
     if 0xE00000 < layout.total {
         return refused(Rule::ResultSize);
@@ -53,12 +65,11 @@ fn repack_measured(file: &[u8], header: Header, pcm: usize, buffer: &mut [u8]) -
         file,
         header,
         pcm,
-        found.waves,
-        found.size,
+        found,
         layout,
-        &heads,
-        &next,
         &places,
+        &spots,
+        &numbers,
         buffer,
     );
     Repacked::Written(layout.total)

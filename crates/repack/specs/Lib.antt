@@ -1,3 +1,1 @@
-pub mod Places
-pub mod Table
-pub mod Result
+pub mod Measured

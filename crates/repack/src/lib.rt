@@ -1,13 +1,118 @@
-// Repacking, its first half: what a master holds, and how long its repacked file is.
-mod measure;
-mod waves;
+// Repacking, its first half: the waves of a master, where they are used, and the size that its frames have when they are repacked.
+use big_endian::read_u16;
+use wave_run::starts_wave;
+use wave_table::BUCKETS;
+use wave_table::MOST;
+use wave_table::add_wave;
+ghost use mathlib.Core.Path.{_≡_};
+ghost use Prim.Native.Nat.{_+_, _*_, _≤_, _<_};
+ghost use lib.ListN.{length, set};
+ghost use Rattle.master.specs.Places.{framesEnd};
+ghost use Rattle.wave_table.specs.Table.{Table};
+ghost use Rattle.repack.specs.Measured.{Noted, MeasuredFrame, Measured};
 
-pub use measure::Measure;
-pub use measure::PcmRun;
-pub use measure::measure_frames;
-pub use measure::pcm_run;
-pub use waves::BUCKETS;
-pub use waves::MOST;
-pub use waves::bucket;
-pub use waves::starts_wave;
-pub use waves::wave_number;
+// One more than the waves that a file can use: behind the last place that is noted stands a 0.
+pub const SPOTS: usize = 11469;
+
+// How many waves are known, how often they are used, and the size of what was measured.
+pub struct Measure {
+    pub waves: usize,
+    pub uses: usize,
+    pub size: usize,
+}
+
+// Notes a use of a wave: its place and the wave's number.
+fn note_use(
+    spots: &mut [u32; SPOTS],
+    numbers: &mut [u16; MOST],
+    uses: usize,
+    at: usize,
+    number: usize,
+)
+    requires { ⌜ (length (now spots) ≡ 11469) × (length (now numbers) ≡ 11468) × (uses < 11468) × (at < 4294967296) × (number < 65536) ⌝ }
+    ensures { λ _. ⌜ (now (spots .exit) ≡ set (now (spots .entry)) uses at) × (now (numbers .exit) ≡ set (now (numbers .entry)) uses number) ⌝ }
+{
+    spots[uses] = at as u32;
+    numbers[uses] = number as u16;
+}
+
+// A frame of so many records: what its operations take, with its waves added to the table and their uses noted.
+fn measure_frame(
+    file: &[u8],
+    start: usize,
+    count: usize,
+    known: usize,
+    noted: usize,
+    heads: &mut [u16; BUCKETS],
+    next: &mut [u16; MOST],
+    places: &mut [u32; MOST],
+    spots: &mut [u32; SPOTS],
+    numbers: &mut [u16; MOST],
+) -> Measure
+    requires { ⌜ Table (now file) (now heads) (now next) (now places) known × Noted (now file) (now places) (now spots) (now numbers) known noted × (start + count * 5 ≤ length (now file)) × (known * 1280 ≤ start) × (noted * 1280 ≤ start) × (length (now file) ≤ 0xE00000) ⌝ }
+    ensures { λ r. ⌜ MeasuredFrame (now (file .entry)) start count known noted (now (places .entry)) (now (spots .entry)) (now (heads .exit)) (now (next .exit)) (now (places .exit)) (now (spots .exit)) (now (numbers .exit)) (r .waves) (r .uses) (r .size) ⌝ }
+{
+    let mut at = start;
+    let mut left = count;
+    let mut waves = known;
+    let mut uses = noted;
+    let mut size: usize = 0;
+    while 0 < left {
+        if starts_wave(file, at, left) {
+            let wave = add_wave(file, at, waves, heads, next, places);
+            note_use(spots, numbers, uses, at, wave.number);
+            waves = wave.waves;
+            uses += 1;
+            at += 1280;
+            left -= 256;
+            size += 15;
+        } else {
+            at += 5;
+            left -= 1;
+            size += 6;
+        }
+    }
+    Measure { waves, uses, size }
+}
+
+// So many frames from a place, with an empty table and nothing noted.
+pub fn measure_frames(
+    file: &[u8],
+    start: usize,
+    count: usize,
+    heads: &mut [u16; BUCKETS],
+    next: &mut [u16; MOST],
+    places: &mut [u32; MOST],
+    spots: &mut [u32; SPOTS],
+    numbers: &mut [u16; MOST],
+) -> Measure
+    requires { ⌜ Table (now file) (now heads) (now next) (now places) 0 × Noted (now file) (now places) (now spots) (now numbers) 0 0 × (framesEnd (now file) count start ≤ length (now file)) × (length (now file) ≤ 0xE00000) ⌝ }
+    ensures { λ r. ⌜ Measured (now (file .entry)) start count (now (places .exit)) (now (spots .exit)) (now (numbers .exit)) (r .waves) (r .uses) (r .size) ⌝ }
+{
+    let mut at = start;
+    let mut left = count;
+    let mut waves: usize = 0;
+    let mut uses: usize = 0;
+    let mut size: usize = 0;
+    while 0 < left {
+        let records = read_u16(file, at) as usize;
+        let frame = measure_frame(
+            file,
+            at + 2,
+            records,
+            waves,
+            uses,
+            heads,
+            next,
+            places,
+            spots,
+            numbers,
+        );
+        waves = frame.waves;
+        uses = frame.uses;
+        size += 2 + frame.size;
+        at += 2 + records * 5;
+        left -= 1;
+    }
+    Measure { waves, uses, size }
+}

@@ -1,7 +1,7 @@
 -- `compile::song::repack_accepted` meets its contract. Assumes nothing.
 use mathlib.Core.Path.{sym, ap, _∙_}
 use borrow.Author.Needs.{needs}
-use Rattle.repack.specs.Result.{pcmIn}
+use Rattle.repack_opening.specs.Opening.{pcmIn}
 use Rattle.compile.proofs.Answers.{refuses, other-version, out-of-order, lies}
 use Rattle.compile.proofs.song.repack_accepted.Statement.{statement}
 use Rattle.compile.proofs.song.repack_accepted.Tie as tie

@@ -1,0 +1,128 @@
+-- `repack::measure_frames` meets its contract: what is known, noted and measured, with what the frames still to take add, is the
+-- whole. Assumes nothing.
+use Prim.Native.Nat.{_+_, _-_, _*_, _≤_}
+use mathlib.Core.Path.{_≡_, refl, sym, _∙_}
+use mathlib.Core.List.{[], _++_, append-nil}
+use native.Mathlib.Omega.{arith}
+use borrow.Author.Needs.{needs}
+use lib.ListN.{length, take}
+use Rattle.master.specs.Places.{framesEnd, behindFrame}
+use Rattle.wave_table.specs.Table.{wavesIn, Table}
+use Rattle.master.specs.Result.{allWaves, frameBytes}
+use Rattle.master.proofs.Master.{frames-rise, frame-within}
+use Rattle.master.specs.Uses.{allUses}
+use Rattle.master.proofs.Result.{all-none, frames-none}
+use Rattle.master.proofs.Uses.{all-uses-none}
+use Rattle.repack.specs.Measured.{Noted}
+use Rattle.repack.proofs.Noted.{onward}
+use Rattle.repack.proofs.measure_frames.Statement.{statement}
+use Rattle.repack.proofs.measure_frames.Tie as tie
+
+abbrev Inv-loop : tie.InvT-loop
+Inv-loop file start count heads₀ next₀ places₀ spots₀ numbers₀ at₀ left₀ waves₀ uses₀ size₀ heads next places spots numbers at left waves uses size =
+    (framesEnd file left at ≤ length file)
+    × Table file heads next places waves
+    × (allWaves [] file count start ≡ allWaves (wavesIn file places waves) file left at)
+    × (length (frameBytes 0 [] file count start) ≡ size + length (frameBytes 0 [] file left at))
+    × (waves * 1280 ≤ at)
+    × (size ≤ at * 2)
+    × Noted file places spots numbers waves uses
+    × (allUses file count start ≡ take uses spots ++ allUses file left at)
+    × (uses * 1280 ≤ at)
+
+abbrev μ-loop : tie.MeasureT-loop
+μ-loop file start count heads₀ next₀ places₀ spots₀ numbers₀ at₀ left₀ waves₀ uses₀ size₀ heads next places spots numbers at left waves uses size = left
+
+-- the frame lies in the file
+inside : (c : tie.After-struct-known Inv-loop μ-loop) → c .before .before .before .before .before .before .before .before .before .loop .at + (2 + c .before .before .before .before .before .before .before .read-u16 .result * 5) ≤ length (c .before .before .before .before .before .before .before .before .before .before .before .args .file .now)
+inside c =
+    let l = c .before .before .before .before .before .before .before .before .before .loop in
+    omega (arith, frame-within (c .before .before .before .before .before .before .before .before .before .before .before .args .file .now) (l .left) (l .at) (c .before .before .before .before .before .before .before .before .loop-test .taken), c .before .before .before .before .before .before .before .read-u16 .ensures, l .inv .0)
+
+loop-holds : tie.Need-loop-holds Inv-loop μ-loop
+loop-holds c = (c .before .pre .2, c .before .pre .0, refl, omega arith, omega arith, omega arith, c .before .pre .1, refl, omega arith)
+
+read-u16-requires : tie.Need-read-u16-requires Inv-loop μ-loop
+read-u16-requires c κs = search needs
+
+cast-records : tie.Need-cast-records Inv-loop μ-loop
+cast-records c = search needs
+
+add-measure-frame : tie.Need-add-measure-frame Inv-loop μ-loop
+add-measure-frame c =
+    let l = c .before .before .loop in
+    omega (arith, frame-within (c .before .before .before .before .args .file .now) (l .left) (l .at) (c .before .loop-test .taken))
+
+measure-frame-requires : tie.Need-measure-frame-requires Inv-loop μ-loop
+measure-frame-requires c κs =
+    let l = c .before .before .before .before .before .before .before .loop in
+    let within = frame-within (c .before .before .before .before .before .before .before .before .before .args .file .now) (l .left) (l .at) (c .before .before .before .before .before .before .loop-test .taken) in
+    (l .inv .1, l .inv .6, omega (arith, within, c .before .before .before .before .before .read-u16 .ensures, l .inv .0), omega arith, omega arith, c .before .before .before .before .before .before .before .before .before .pre .3)
+
+add-size : tie.Need-add-size Inv-loop μ-loop
+add-size c = omega (arith, c .before .measure-frame .ensures .small, inside c)
+
+add-size-2 : tie.Need-add-size-2 Inv-loop μ-loop
+add-size-2 c = omega (arith, c .before .measure-frame .ensures .small, inside c)
+
+mul-at : tie.Need-mul-at Inv-loop μ-loop
+mul-at c = omega (arith, inside c)
+
+add-at : tie.Need-add-at Inv-loop μ-loop
+add-at c = omega (arith, inside c)
+
+add-at-2 : tie.Need-add-at-2 Inv-loop μ-loop
+add-at-2 c = omega (arith, inside c)
+
+sub-left : tie.Need-sub-left Inv-loop μ-loop
+sub-left c = omega arith
+
+loop-less : tie.Need-loop-less Inv-loop μ-loop
+loop-less c = omega arith
+
+loop-again : tie.Need-loop-again Inv-loop μ-loop
+loop-again c =
+    let l = c .before .before .before .before .before .before .before .before .before .loop in
+    let frame = c .before .measure-frame .ensures in
+    let file = c .before .before .before .before .before .before .before .before .before .before .before .args .file .now in
+    let place = l .at + (2 + c .before .before .before .before .before .before .before .read-u16 .result * 5) in
+    let behind : behindFrame file (l .at) ≡ place = omega (arith, c .before .before .before .before .before .before .before .read-u16 .ensures) in
+    let on = onward file (l .left) (l .at) (l .waves) (l .uses) (l .places) (l .spots) _ _ _ _ _ _ _ _ _ place (c .before .before .before .before .before .before .before .before .loop-test .taken) (sym (c .before .before .before .before .before .before .before .read-u16 .ensures)) behind frame in
+    (omega (arith, on .end-on, l .inv .0), frame .table, l .inv .2 ∙ on .waves-on, omega (arith, on .size-on, l .inv .3), omega (arith, frame .few), omega (arith, frame .small), frame .noting, l .inv .7 ∙ on .uses-on, omega (arith, frame .few-uses))
+
+returns : tie.Need-returns Inv-loop μ-loop
+returns c =
+    let l = c .before .loop in
+    let file = c .before .before .before .args .file .now in
+    let none : l .left ≡ 0 = omega arith in
+    record {
+      noting = l .inv .6;
+      waves-are = l .inv .2 ∙ rw (none, all-none);
+      size-is = l .inv .3 ∙ rw (none, frames-none) (omega arith);
+      small = omega (arith, frames-rise file (l .left) (l .at));
+      uses-are = l .inv .7 ∙ rw (none, all-uses-none, append-nil);
+      few = l .inv .1 .few;
+      places-size = l .inv .1 .places-size;
+      inside = l .inv .1 .inside;
+    }
+
+pub measure-frames-spec : {M : Type 1} → statement M
+measure-frames-spec =
+    tie.close
+    (tie.spec
+    Inv-loop
+    μ-loop
+    loop-holds
+    read-u16-requires
+    cast-records
+    add-measure-frame
+    measure-frame-requires
+    add-size
+    add-size-2
+    mul-at
+    add-at
+    add-at-2
+    sub-left
+    loop-less
+    loop-again
+    returns)

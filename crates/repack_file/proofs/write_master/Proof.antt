@@ -1,0 +1,94 @@
+-- `repack_file::write_master` meets its contract. Assumes nothing.
+use Prim.Native.Nat.{_+_, _*_}
+use mathlib.Core.Path.{refl, sym}
+use mathlib.Core.List.{[], _++_, append-nil}
+use native.Mathlib.Omega.{arith}
+use borrow.Author.Needs.{needs}
+use lib.ListN.{length}
+use Rattle.format.specs.Repack.{repacked}
+use Rattle.format.specs.Written.{written}
+use Rattle.master.specs.Places.{masterOf}
+use Rattle.wave_table.specs.Table.{wavesIn}
+use Rattle.master.specs.Result.{frameBytes}
+use Rattle.written_items.proofs.Writing.{starts, wrote, ends}
+use Rattle.repack_opening.specs.Opening.{openingPart}
+use Rattle.repack_layout.specs.Layout.{pcmPool, frontOf}
+use Rattle.repack_file.proofs.Frames.{lists, marked, frames-are}
+use Rattle.repack_layout.proofs.Made.{pcm-few, frames-at, total-at, parts-are, total-is, front-fits}
+use Rattle.repack_layout.proofs.Numbers.{front-size}
+use Rattle.repack_file.proofs.write_master.Statement.{statement}
+use Rattle.repack_file.proofs.write_master.Tie as tie
+
+cast-records : tie.Need-cast-records
+cast-records c = search needs
+
+cast-frames : tie.Need-cast-frames
+cast-frames c = search needs
+
+mul-start : tie.Need-mul-start
+mul-start c = omega (arith, c .before .before .before .before .pre .0 .opening-fits)
+
+add-start : tie.Need-add-start
+add-start c = omega (arith, c .before .before .before .before .pre .0 .opening-fits)
+
+write-front-requires : tie.Need-write-front-requires
+write-front-requires c κs =
+    let a = c .before .before .before .before .before .args in
+    let p = c .before .before .before .before .before .pre in
+    front-fits (p .0) (p .1) (a .buffer .now) (p .2) (p .3)
+
+put-opening-requires : tie.Need-put-opening-requires
+put-opening-requires c κs =
+    let a = c .before .before .before .before .before .before .before .before .before .args in
+    let p = c .before .before .before .before .before .before .before .before .before .pre in
+    let ends-at = frames-at (p .0) (p .1) in
+    let all-at = total-at (p .0) (p .1) in
+    (p .0 .opening-fits, omega arith, omega (arith, pcm-few (p .0)))
+
+pcm-pool-requires : tie.Need-pcm-pool-requires
+pcm-pool-requires c κs = search needs
+
+put-frames-requires : tie.Need-put-frames-requires
+put-frames-requires c κs =
+    let a = c .before .before .before .before .before .before .before .before .before .before .before .before .before .before .args in
+    let p = c .before .before .before .before .before .before .before .before .before .before .before .before .before .before .pre in
+    let all-at = total-at (p .0) (p .1) in
+    let pool = c .before .pcm-pool .ensures in
+    (lists (p .0), marked (p .0), p .0 .frames-fit, pool .1, rw (pool .0, frames-are (p .0) (pcmPool (a .pcm))) (omega arith))
+
+same-length : tie.Need-same-length
+same-length c = search needs
+
+returns : tie.Need-returns
+returns c =
+    let a = c .before .before .before .before .before .before .before .before .before .before .before .before .before .before .before .before .before .args in
+    let p = c .before .before .before .before .before .before .before .before .before .before .before .before .before .before .before .before .before .pre in
+    let file = a .file .now in
+    let places = a .places .now in
+    let f = frontOf file (a .header) (a .pcm) (a .found .waves) (a .layout) places in
+    let o = openingPart file (a .header .«initial_count») (a .pcm) in
+    let r = frameBytes (pcmPool (a .pcm)) (wavesIn file places (a .found .waves)) file (a .header .«frame_count») (20 + a .header .«initial_count» * 5) in
+    let total = total-is (p .0) (p .1) in
+    let parts = parts-are (p .0) (p .1) in
+    let fits = front-fits (p .0) (p .1) (a .buffer .now) (p .2) (p .3) in
+    let opens = front-size fits in
+    let w₀ = starts (written (repacked (masterOf file (a .header)))) 0 (a .buffer .now) (omega arith) in
+    let w₁ = wrote w₀ f (o ++ r) (length f) {place′ = a .layout .opening} parts refl (omega arith) (c .before .before .before .before .before .before .before .before .before .before .before .write-front .ensures) in
+    let w₂ = wrote w₁ o r (length o) {place′ = a .layout .frames} refl refl (frames-at (p .0) (p .1)) (c .before .before .before .before .before .before .before .put-opening .ensures) in
+    let done = wrote w₂ r [] (length r) {place′ = a .layout .frames + length r} (sym (append-nil r)) refl refl (rw (c .before .before .before .before .pcm-pool .ensures .0, frames-are (p .0) (pcmPool (a .pcm))) at (c .before .before .put-frames .ensures)) in
+    ends done refl .0
+
+pub write-master-spec : {M : Type 1} → statement M
+write-master-spec =
+    tie.close
+    (tie.spec
+    cast-records
+    cast-frames
+    mul-start
+    add-start
+    write-front-requires
+    put-opening-requires
+    pcm-pool-requires
+    put-frames-requires
+    same-length
+    returns)

@@ -1,0 +1,75 @@
+// Writes a repacked file, part by part, into a buffer that holds it.
+use format::Header;
+use repack::Measure;
+use repack::SPOTS;
+use repack_frames::put_frames;
+use repack_layout::Layout;
+use repack_layout::new_header;
+use repack_layout::pcm_pool;
+use repack_opening::put_opening;
+use repack_payloads::put_pcm;
+use repack_payloads::put_waves;
+use wave_table::MOST;
+use written_directory::put_directory;
+use written_header::put_header;
+ghost use mathlib.Core.Path.{_≡_};
+ghost use Prim.Native.Nat.{_≤_};
+ghost use lib.ListN.{length};
+ghost use Rattle.format.specs.Repack.{repacked};
+ghost use Rattle.format.specs.Written.{written};
+ghost use Rattle.big_endian.specs.Put.{put};
+ghost use Rattle.master.specs.Places.{masterOf};
+ghost use Rattle.repack_layout.specs.Layout.{Known, layoutOf, frontOf, FrontFits};
+
+// The header, the directory and the payloads.
+fn write_front(
+    file: &[u8],
+    header: Header,
+    pcm: usize,
+    waves: usize,
+    layout: Layout,
+    places: &[u32; MOST],
+    buffer: &mut [u8],
+)
+    requires { ⌜ FrontFits (now file) header pcm waves layout (now places) (now buffer) ⌝ }
+    ensures { λ _. ⌜ now (buffer .exit) ≡ put (frontOf (now (file .entry)) header pcm waves layout (now (places .entry))) 0 (now (buffer .entry)) ⌝ }
+{
+    let records = header.initial_count as usize;
+    let payloads = layout.payloads;
+    put_header(buffer, new_header(header, layout));
+    put_directory(buffer, pcm, waves, payloads);
+    put_pcm(file, records, buffer, payloads);
+    put_waves(file, places, waves, buffer, payloads + pcm);
+}
+
+// The whole file.
+pub fn write_master(
+    file: &[u8],
+    header: Header,
+    pcm: usize,
+    found: Measure,
+    layout: Layout,
+    places: &[u32; MOST],
+    spots: &[u32; SPOTS],
+    numbers: &[u16; MOST],
+    buffer: &mut [u8],
+)
+    requires { ⌜ Known (now file) header (now places) (now spots) (now numbers) pcm (found .waves) (found .uses) (found .size) × (layout ≡ layoutOf (header .«initial_count») pcm (found .waves) (found .size)) × (layout .total ≤ 0xE00000) × (layout .total ≤ length (now buffer)) ⌝ }
+    ensures { λ _. ⌜ now (buffer .exit) ≡ put (written (repacked (masterOf (now (file .entry)) header))) 0 (now (buffer .entry)) ⌝ }
+{
+    let records = header.initial_count as usize;
+    let frames = header.frame_count as usize;
+    let start = 20 + records * 5;
+    write_front(file, header, pcm, found.waves, layout, places, buffer);
+    put_opening(file, records, pcm, buffer, layout.opening);
+    put_frames(
+        file,
+        start,
+        frames,
+        pcm_pool(pcm),
+        spots,
+        numbers,
+        buffer,
+        layout.frames,
+    );
+}

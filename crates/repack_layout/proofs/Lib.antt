@@ -1,0 +1,3 @@
+pub mod Made
+pub mod Numbers
+pub mod Sections

@@ -1,0 +1,62 @@
+-- Where the parts of a repacked file start, and its header, by the numbers that were measured.
+use Prim.Native.Nat.{ℕ, zero, suc, _+_, _*_, _-_, _≤_}
+use mathlib.Core.List.{List, _++_}
+use mathlib.Core.Path.{_≡_}
+use lib.ListN.{length}
+use Rattle.format.specs.declared.header.Header.{Header}
+use Rattle.format.specs.Bytes.{bytesOfAll}
+use Rattle.format.specs.Repack.{pcmFill}
+use Rattle.format.specs.Written.{headerFields}
+use Rattle.master.specs.Places.{framesEnd}
+use Rattle.master.specs.Result.{pcmBytes}
+use Rattle.repack.specs.Measured.{Measured}
+use Rattle.written_directory.specs.Directory.{directoryOf}
+use Rattle.repack_payloads.specs.Payloads.{wavesBytes, AllInside}
+use Rattle.repack_opening.specs.Opening.{fillPart, copyPart}
+use Rattle.repack_layout.specs.declared.Layout.{Layout}
+
+-- one pool for PCM bytes, if there are any
+abbrev pub pcmPool : (pcm : ℕ) → ℕ
+pcmPool zero = 0
+pcmPool (suc n) = 1
+
+unfoldable pub layoutOf : (records pcm waves size : ℕ) → Layout
+layoutOf records pcm waves size =
+    let cores = records - pcm in
+    let pools = pcmPool pcm + waves in
+    let payloads = 40 + pools * 16 in
+    let opening = payloads + (pcm + waves * 256) in
+    let frames = opening + (length (fillPart pcm) + (cores * 6 + length (copyPart pcm))) in
+    record { pools = pools; operations = length (pcmFill pcm) + (cores + pcmPool pcm); payloads = payloads; opening = opening; frames = frames; total = frames + size }
+
+unfoldable pub newHeader : Header → Layout → Header
+newHeader header layout =
+    record { version = 2; repeat = header .repeat; «frame_period» = 0; «card_count» = 0; «frame_count» = header .«frame_count»; «pool_count» = layout .pools; «initial_count» = layout .operations; «directory_offset» = 40; «initial_start» = layout .opening; «frame_start» = layout .frames; «total_size» = layout .total }
+
+-- a master that was measured
+pub record Known (file : List ℕ) (header : Header) (places spots numbers : List ℕ) (pcm waves uses size : ℕ) : Type 0 where
+  pub pcm-is : length (pcmBytes file (header .«initial_count») 20) ≡ pcm
+  pub measured : Measured file (20 + header .«initial_count» * 5) (header .«frame_count») places spots numbers waves uses size
+  pub opening-fits : 20 + header .«initial_count» * 5 ≤ length file
+  pub frames-fit : framesEnd file (header .«frame_count») (20 + header .«initial_count» * 5) ≤ length file
+  pub small : length file ≤ 0xE00000
+
+-- the header, the directory and the payloads
+unfoldable pub frontOf : (file : List ℕ) (header : Header) (pcm waves : ℕ) (layout : Layout) (places : List ℕ) → List ℕ
+frontOf file header pcm waves layout places =
+    bytesOfAll (headerFields (newHeader header layout))
+    ++ (directoryOf pcm waves (layout .payloads) ++ (pcmBytes file (header .«initial_count») 20 ++ wavesBytes file places 0 waves))
+
+-- they fit
+pub record FrontFits (file : List ℕ) (header : Header) (pcm waves : ℕ) (layout : Layout) (places buffer : List ℕ) : Type 0 where
+  pub pcm-is : length (pcmBytes file (header .«initial_count») 20) ≡ pcm
+  pub records-fit : 20 + header .«initial_count» * 5 ≤ length file
+  pub waves-inside : AllInside file places waves
+  pub payloads-at : layout .payloads ≡ 40 + (pcmPool pcm + waves) * 16
+  pub opening-at : layout .opening ≡ layout .payloads + (pcm + waves * 256)
+  pub frames-at : layout .opening ≤ layout .frames
+  pub end-at : layout .frames ≤ layout .total
+  pub few : layout .pools ≤ layout .total
+  pub less : layout .operations ≤ layout .total
+  pub small : layout .total ≤ 0xE00000
+  pub room : layout .total ≤ length buffer

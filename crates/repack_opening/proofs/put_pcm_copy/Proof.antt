@@ -1,0 +1,35 @@
+-- `repack_opening::put_pcm_copy` meets its contract. Assumes nothing.
+use mathlib.Core.Path.{sym, ap}
+use native.Mathlib.Omega.{arith}
+use borrow.Author.Needs.{needs}
+use lib.ListN.{length}
+use Rattle.written_items.proofs.Items.{copy-size}
+use Rattle.big_endian.proofs.Sequence.{put-none}
+use Rattle.repack_opening.proofs.Opening.{no-copy, some-copy}
+use Rattle.repack_opening.proofs.put_pcm_copy.Statement.{statement}
+use Rattle.repack_opening.proofs.put_pcm_copy.Tie as tie
+
+returns : tie.Need-returns
+returns c =
+    let a = c .before .before .args in
+    rw (no-copy (a .pcm) (c .if1 .taken)) (sym (put-none (a .at) (a .buffer .now) (omega arith)))
+
+cast-put-copy : tie.Need-cast-put-copy
+cast-put-copy c = search needs
+
+put-copy-requires : tie.Need-put-copy-requires
+put-copy-requires c κs =
+    let a = c .before .before .before .args in
+    omega (arith, ap length (some-copy (a .pcm) (c .before .if1 .left)), copy-size 2 0 0 (a .pcm))
+
+same-length : tie.Need-same-length
+same-length c = search needs
+
+returns-2 : tie.Need-returns-2
+returns-2 c =
+    let a = c .before .before .before .before .before .before .args in
+    rw (some-copy (a .pcm) (c .before .before .before .before .if1 .left)) (c .before .before .put-copy .ensures)
+
+pub put-pcm-copy-spec : {M : Type 1} → statement M
+put-pcm-copy-spec =
+    tie.close (tie.spec returns cast-put-copy put-copy-requires same-length returns-2)

@@ -1,0 +1,56 @@
+-- `repack_opening::put_pcm_fill` meets its contract. Assumes nothing.
+use Prim.Native.Nat.{_-_}
+use mathlib.Core.Path.{sym, ap}
+use native.Mathlib.Omega.{arith}
+use borrow.Author.Needs.{needs}
+use lib.ListN.{length}
+use Rattle.big_endian.proofs.Sequence.{put-none}
+use Rattle.written_items.proofs.Items.{fill-size}
+use Rattle.repack_opening.proofs.Opening.{no-fill, full-fill, some-fill}
+use Rattle.repack_opening.proofs.put_pcm_fill.Statement.{statement}
+use Rattle.repack_opening.proofs.put_pcm_fill.Tie as tie
+
+returns : tie.Need-returns
+returns c =
+    let a = c .before .before .args in
+    rw (no-fill (a .pcm) (c .if1 .taken)) (sym (put-none (a .at) (a .buffer .now) (omega arith)))
+
+returns-2 : tie.Need-returns-2
+returns-2 c =
+    let a = c .before .before .before .args in
+    rw (full-fill (a .pcm) (c .if2 .taken)) (sym (put-none (a .at) (a .buffer .now) (omega arith)))
+
+cast-put-fill : tie.Need-cast-put-fill
+cast-put-fill c = search needs
+
+sub-put-fill : tie.Need-sub-put-fill
+sub-put-fill c = search needs
+
+cast-put-fill-2 : tie.Need-cast-put-fill-2
+cast-put-fill-2 c = search needs
+
+put-fill-requires : tie.Need-put-fill-requires
+put-fill-requires c κs =
+    let a = c .before .before .before .before .args in
+    omega (arith, ap length (some-fill (a .pcm) (c .before .before .if1 .left) (c .before .if2 .left)), fill-size 2 (a .pcm) (1048576 - a .pcm) 0x80)
+
+same-length : tie.Need-same-length
+same-length c = search needs
+
+returns-3 : tie.Need-returns-3
+returns-3 c =
+    let a = c .before .before .before .before .before .before .before .args in
+    rw (some-fill (a .pcm) (c .before .before .before .before .before .if1 .left) (c .before .before .before .before .if2 .left)) (c .before .before .put-fill .ensures)
+
+pub put-pcm-fill-spec : {M : Type 1} → statement M
+put-pcm-fill-spec =
+    tie.close
+    (tie.spec
+    returns
+    returns-2
+    cast-put-fill
+    sub-put-fill
+    cast-put-fill-2
+    put-fill-requires
+    same-length
+    returns-3)

@@ -1,0 +1,98 @@
+-- `repack_payloads::put_pcm` meets its contract: the bytes still to write, behind those that stand, are the whole. Assumes nothing.
+use Prim.Native.Nat.{_+_, _-_, _*_, _≤_}
+use mathlib.Core.Path.{_≡_, refl, ap, _∙_}
+use mathlib.Core.List.{[], _∷_}
+use mathlib.Core.Logic.{⊎-elim}
+use native.Mathlib.Omega.{arith}
+use borrow.Author.Needs.{needs}
+use lib.ListN.{length}
+use Rattle.format.specs.Bytes.{byte}
+use Rattle.master.specs.Result.{pcmBytes}
+use Rattle.master.proofs.Result.{pcm-byte, pcm-skip, opening-none}
+use Rattle.big_endian.proofs.Sequence.{put-byte}
+use Rattle.written_items.proofs.Writing.{Writing, starts, wrote, told, ends}
+use Rattle.repack_payloads.proofs.put_pcm.Statement.{statement}
+use Rattle.repack_payloads.proofs.put_pcm.Tie as tie
+
+abbrev Inv-loop : tie.InvT-loop
+Inv-loop file count buffer₀ at from₀ left₀ place₀ buffer from left place =
+    (from + left * 5 ≤ length file) × Writing (pcmBytes file count 20) at buffer₀ (pcmBytes file left from) place buffer
+
+abbrev μ-loop : tie.MeasureT-loop
+μ-loop file count buffer₀ at from₀ left₀ place₀ buffer from left place = left
+
+loop-holds : tie.Need-loop-holds Inv-loop μ-loop
+loop-holds c =
+    let a = c .args in
+    (c .pre .0, starts (pcmBytes (a .file .now) (a .count) 20) (a .at) (a .buffer .now) (c .pre .1))
+
+shared-slice-read-if1 : tie.Need-shared-slice-read-if1 Inv-loop μ-loop
+shared-slice-read-if1 c = search needs
+
+add-buffer : tie.Need-add-buffer Inv-loop μ-loop
+add-buffer c = search needs
+
+shared-slice-read-buffer : tie.Need-shared-slice-read-buffer Inv-loop μ-loop
+shared-slice-read-buffer c = search needs
+
+slice-write-buffer : tie.Need-slice-write-buffer Inv-loop μ-loop
+slice-write-buffer c =
+    let l = c .before .before .before .before .loop in
+    omega (arith, ap length (pcm-byte (c .before .before .before .before .before .args .file .now) (l .left) (l .from) (c .before .before .before .loop-test .taken) (c .before .if1 .taken)), l .inv .1 .fits)
+
+add-place : tie.Need-add-place Inv-loop μ-loop
+add-place c =
+    let l = c .before .before .before .before .loop in
+    omega (arith, ap length (pcm-byte (c .before .before .before .before .before .args .file .now) (l .left) (l .from) (c .before .before .before .loop-test .taken) (c .before .if1 .taken)), l .inv .1 .fits)
+
+add-from : tie.Need-add-from Inv-loop μ-loop
+add-from c = search needs
+
+sub-left : tie.Need-sub-left Inv-loop μ-loop
+sub-left c = search needs
+
+loop-less : tie.Need-loop-less Inv-loop μ-loop
+loop-less c = search needs
+
+loop-again : tie.Need-loop-again Inv-loop μ-loop
+loop-again c =
+    let l = c .before .before .before .loop in
+    let file = c .before .before .before .before .args .file .now in
+    let more = c .before .before .loop-test .taken in
+    let rest = pcmBytes file (l .left - 1) (l .from + 5) in (
+      omega arith,
+      ⊎-elim
+          (λ w.
+          let is = pcm-byte file (l .left) (l .from) more (w .0 .taken) in
+          wrote (l .inv .1) (byte file (l .from + 4) ∷ []) rest 1 is refl (w .3) (w .2 ∙ put-byte (byte file (l .from + 4)) (l .place) (l .buffer) (omega (arith, ap length is, l .inv .1 .fits))))
+          (λ w. told (l .inv .1) rest (pcm-skip file (l .left) (l .from) more (w .0 .left)) (w .2) (w .1))
+          (c .if1 .came),
+    )
+
+same-length : tie.Need-same-length Inv-loop μ-loop
+same-length c = search needs
+
+returns : tie.Need-returns Inv-loop μ-loop
+returns c =
+    let l = c .before .loop in
+    let none : l .left ≡ 0 = omega arith in
+    ends (l .inv .1) (rw none (opening-none (c .before .before .args .file .now) (l .from) .0)) .0
+
+pub put-pcm-spec : {M : Type 1} → statement M
+put-pcm-spec =
+    tie.close
+    (tie.spec
+    Inv-loop
+    μ-loop
+    loop-holds
+    shared-slice-read-if1
+    add-buffer
+    shared-slice-read-buffer
+    slice-write-buffer
+    add-place
+    add-from
+    sub-left
+    loop-less
+    loop-again
+    same-length
+    returns)

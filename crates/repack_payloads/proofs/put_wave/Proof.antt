@@ -1,0 +1,84 @@
+-- `repack_payloads::put_wave` meets its contract: the bytes still to write, behind those that stand, are the whole. Assumes nothing.
+use Prim.Native.Nat.{_+_, _-_, _*_}
+use mathlib.Core.Path.{_≡_, refl}
+use mathlib.Core.List.{[], _∷_}
+use native.Mathlib.Omega.{arith}
+use borrow.Author.Needs.{needs}
+use Rattle.format.specs.Bytes.{byte}
+use Rattle.master.specs.Places.{valuesAt}
+use Rattle.master.proofs.Pieces.{values-next, values-none, values-count}
+use Rattle.big_endian.proofs.Sequence.{put-byte}
+use Rattle.written_items.proofs.Writing.{Writing, starts, wrote, ends}
+use Rattle.repack_payloads.proofs.put_wave.Statement.{statement}
+use Rattle.repack_payloads.proofs.put_wave.Tie as tie
+
+abbrev Inv-loop : tie.InvT-loop
+Inv-loop file start buffer₀ at from₀ left₀ place₀ buffer from left place =
+    (from + left * 5 ≡ start + 1280) × Writing (valuesAt file 256 start) at buffer₀ (valuesAt file left from) place buffer
+
+abbrev μ-loop : tie.MeasureT-loop
+μ-loop file start buffer₀ at from₀ left₀ place₀ buffer from left place = left
+
+loop-holds : tie.Need-loop-holds Inv-loop μ-loop
+loop-holds c =
+    let a = c .args in
+    (refl, starts (valuesAt (a .file .now) 256 (a .start)) (a .at) (a .buffer .now) (rw (values-count (a .file .now) 256 (a .start)) (c .pre .1)))
+
+add-buffer : tie.Need-add-buffer Inv-loop μ-loop
+add-buffer c = search needs
+
+shared-slice-read-buffer : tie.Need-shared-slice-read-buffer Inv-loop μ-loop
+shared-slice-read-buffer c = search needs
+
+slice-write-buffer : tie.Need-slice-write-buffer Inv-loop μ-loop
+slice-write-buffer c =
+    let l = c .before .before .loop in
+    omega (arith, values-count (c .before .before .before .args .file .now) (l .left) (l .from), l .inv .1 .fits)
+
+add-place : tie.Need-add-place Inv-loop μ-loop
+add-place c =
+    let l = c .before .before .loop in
+    omega (arith, values-count (c .before .before .before .args .file .now) (l .left) (l .from), l .inv .1 .fits)
+
+add-from : tie.Need-add-from Inv-loop μ-loop
+add-from c = search needs
+
+sub-left : tie.Need-sub-left Inv-loop μ-loop
+sub-left c = search needs
+
+loop-less : tie.Need-loop-less Inv-loop μ-loop
+loop-less c = search needs
+
+loop-again : tie.Need-loop-again Inv-loop μ-loop
+loop-again c =
+    let l = c .before .before .loop in
+    let file = c .before .before .before .args .file .now in
+    let room = values-count file (l .left) (l .from) in
+    (omega arith, wrote (l .inv .1) (byte file (l .from + 4) ∷ []) (valuesAt file (l .left - 1) (l .from + 5)) 1 (values-next file (l .left) (l .from) (c .before .loop-test .taken)) refl refl (put-byte (byte file (l .from + 4)) (l .place) (l .buffer) (omega (arith, l .inv .1 .fits))))
+
+same-length : tie.Need-same-length Inv-loop μ-loop
+same-length c = search needs
+
+returns : tie.Need-returns Inv-loop μ-loop
+returns c =
+    let l = c .before .loop in
+    let none : l .left ≡ 0 = omega arith in
+    ends (l .inv .1) (rw none (values-none (c .before .before .args .file .now) (l .from))) .0
+
+pub put-wave-spec : {M : Type 1} → statement M
+put-wave-spec =
+    tie.close
+    (tie.spec
+    Inv-loop
+    μ-loop
+    loop-holds
+    add-buffer
+    shared-slice-read-buffer
+    slice-write-buffer
+    add-place
+    add-from
+    sub-left
+    loop-less
+    loop-again
+    same-length
+    returns)

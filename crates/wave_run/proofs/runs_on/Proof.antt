@@ -1,0 +1,91 @@
+-- `wave_run::runs_on` meets its contract: the records still to look at decide. Assumes nothing.
+use Prim.Native.Nat.{_+_, _-_, _*_, _≤_}
+use mathlib.Core.Path.{_≡_, sym, _∙_}
+use native.Mathlib.Nat.{add-zero}
+use Rattle.format.specs.Repack.{runs}
+use Rattle.format.proofs.Bytes.{AllBytes}
+use Rattle.master.specs.Places.{recordsAt}
+use Rattle.master.proofs.Pieces.{runs-next, runs-not, runs-none}
+use Rattle.wave_run.proofs.Heads.{head-same, head-differs}
+use borrow.Author.Needs.{needs}
+use native.Mathlib.Omega.{arith}
+use Rattle.wave_run.proofs.runs_on.Statement.{statement}
+use Rattle.wave_run.proofs.runs_on.Tie as tie
+
+abbrev Inv-loop : tie.InvT-loop
+Inv-loop records target address left₀ place₀ head₀ left place head =
+    (left ≤ 256)
+    × (place + left * 5 ≡ 1280)
+    × (head + left ≡ target * 16777216 + address + 256)
+    × (runs 256 target address (recordsAt records 256 0) ≡ runs left target (address + (256 - left)) (recordsAt records left place))
+
+abbrev μ-loop : tie.MeasureT-loop
+μ-loop records target address left₀ place₀ head₀ left place head = left
+
+mul-head : tie.Need-mul-head Inv-loop μ-loop
+mul-head c = search needs
+
+add-head : tie.Need-add-head Inv-loop μ-loop
+add-head c = search needs
+
+loop-holds : tie.Need-loop-holds Inv-loop μ-loop
+loop-holds c = (omega arith, omega arith, omega arith, rw add-zero)
+
+read-u32-requires : tie.Need-read-u32-requires Inv-loop μ-loop
+read-u32-requires c κs = search needs
+
+returns : tie.Need-returns Inv-loop μ-loop
+returns c =
+    let l = c .before .before .before .loop in
+    let a = c .before .before .before .before .before .args in
+    let bytes : AllBytes (a .records .now) = λ i. c .before .before .before .before .shared-slice-known .given i .fits in
+    let from = a .address + (256 - l .left) in
+    let some = c .before .before .loop-test .taken in
+    rw (l .inv .3, runs-not (a .records .now) (l .left) (a .target) from (l .place) some (head-differs (a .records .now) (l .place) bytes (a .target) from (omega arith) (λ e. c .if1 .taken (c .before .read-u32 .ensures ∙ e ∙ omega arith))))
+
+add-place : tie.Need-add-place Inv-loop μ-loop
+add-place c = search needs
+
+add-head-2 : tie.Need-add-head-2 Inv-loop μ-loop
+add-head-2 c = search needs
+
+sub-left : tie.Need-sub-left Inv-loop μ-loop
+sub-left c = search needs
+
+loop-less : tie.Need-loop-less Inv-loop μ-loop
+loop-less c = search needs
+
+loop-again : tie.Need-loop-again Inv-loop μ-loop
+loop-again c =
+    let l = c .before .before .before .loop in
+    let a = c .before .before .before .before .before .args in
+    let bytes : AllBytes (a .records .now) = λ i. c .before .before .before .before .shared-slice-known .given i .fits in
+    let from = a .address + (256 - l .left) in
+    let some = c .before .before .loop-test .taken in
+    let same = head-same (a .records .now) (l .place) bytes (a .target) from (omega arith) (sym (c .before .read-u32 .ensures) ∙ c .if1 .left ∙ omega arith) in
+    let next : a .address + (256 - (l .left - 1)) ≡ from + 1 = omega arith in
+    (omega arith, omega arith, omega arith, rw next (l .inv .3 ∙ runs-next (a .records .now) (l .left) (a .target) from (l .place) some (same .0) (same .1)))
+
+returns-2 : tie.Need-returns-2 Inv-loop μ-loop
+returns-2 c =
+    let l = c .before .loop in
+    let none : l .left ≡ 0 = omega arith in
+    rw (l .inv .3, none, runs-none)
+
+pub runs-on-spec : {M : Type 1} → statement M
+runs-on-spec =
+    tie.close
+    (tie.spec
+    Inv-loop
+    μ-loop
+    mul-head
+    add-head
+    loop-holds
+    read-u32-requires
+    returns
+    add-place
+    add-head-2
+    sub-left
+    loop-less
+    loop-again
+    returns-2)

@@ -1,0 +1,50 @@
+-- The table of the waves that are known: the place of each one's first use, and chains of the waves that share a bucket.
+use Prim.Native.Nat.{ℕ, zero, suc, _+_, _≤_, _<_}
+use mathlib.Core.Bool.{false, cond}
+use mathlib.Core.List.{List, map}
+use mathlib.Core.Path.{_≡_}
+use lib.Dec.{eqb}
+use lib.ListN.{length, getD, take}
+use Rattle.format.specs.Bytes.{sameBytes}
+use Rattle.format.specs.Repack.{isKnown, placeOf}
+use Rattle.master.specs.Places.{waveAt}
+use Rattle.master.specs.Result.{added}
+use Rattle.wave_hash.specs.Hash.{bucketAt}
+
+-- the first so many waves of the table
+abbrev pub wavesIn : (file places : List ℕ) → (count : ℕ) → List (List ℕ)
+wavesIn file places count = map (waveAt file) (take count places)
+
+-- the latest of the first so many waves that lies in a bucket, counted from 1; 0 if none does
+unfoldable pub latest : (file places : List ℕ) → (bucket count : ℕ) → ℕ
+latest file places bucket zero = 0
+latest file places bucket (suc count) = cond (eqb (bucketAt file (getD places count 0)) bucket) (suc count) (latest file places bucket count)
+
+-- the latest that has the bytes of the wave at a place
+unfoldable pub found : (file places : List ℕ) → (at count : ℕ) → ℕ
+found file places at zero = 0
+found file places at (suc count) = cond (sameBytes (waveAt file (getD places count 0)) (waveAt file at)) (suc count) (found file places at count)
+
+-- `heads` has the latest wave of each bucket, and `next` the one before each wave in its bucket, counted from 1
+pub record Table (file heads next places : List ℕ) (count : ℕ) : Type 0 where
+  pub heads-size : length heads ≡ 16384
+  pub next-size : length next ≡ 11468
+  pub places-size : length places ≡ 11468
+  pub few : count ≤ 11468
+  pub heads-are : (b : ℕ) → b < 16384 → getD heads b 0 ≡ latest file places b count
+  pub next-are : (k : ℕ) → k < count → getD next k 0 ≡ latest file places (bucketAt file (getD places k 0)) k
+  pub inside : (k : ℕ) → k < count → getD places k 0 + 1280 ≤ length file
+  pub fresh : (k : ℕ) → k < count → isKnown (wavesIn file places k) (waveAt file (getD places k 0)) ≡ false
+
+-- a chain from a wave of a bucket, counted from 1, backward; 0 is its end
+pub record Chain (file next places : List ℕ) (bucket first : ℕ) : Type 0 where
+  pub last : latest file places bucket first ≡ first
+  pub next-are : (k : ℕ) → k < first → getD next k 0 ≡ latest file places (bucketAt file (getD places k 0)) k
+  pub inside : (k : ℕ) → k < first → getD places k 0 + 1280 ≤ length file
+
+-- the table after the wave at a place was added, and the wave's number
+pub record Added (file places : List ℕ) (count at : ℕ) (heads′ next′ places′ : List ℕ) (count′ number : ℕ) : Type 0 where
+  pub table : Table file heads′ next′ places′ count′
+  pub waves : wavesIn file places′ count′ ≡ added (wavesIn file places count) (waveAt file at)
+  pub more : count′ ≤ count + 1
+  pub number-is : number ≡ placeOf (wavesIn file places count) (waveAt file at)

@@ -1,0 +1,70 @@
+-- `written_directory::put_directory` meets its contract. Assumes nothing.
+use Prim.Native.Nat.{_+_}
+use mathlib.Core.Path.{sym}
+use native.Mathlib.Omega.{arith}
+use borrow.Author.Needs.{needs}
+use Rattle.written_directory.specs.Directory.{entryBytes, waveEntries}
+use Rattle.big_endian.proofs.Sequence.{put-next}
+use Rattle.written_directory.proofs.Directory.{entry-size, directory-plain, directory-pcm, directory-some, directory-none}
+use Rattle.written_directory.proofs.put_directory.Statement.{statement}
+use Rattle.written_directory.proofs.put_directory.Tie as tie
+
+put-wave-entries-requires : tie.Need-put-wave-entries-requires
+put-wave-entries-requires c κs =
+    let a = c .before .before .before .args in
+    let size = directory-none (a .pcm) (a .waves) (a .start) (c .before .if1 .taken) in
+    (omega arith, omega arith, omega arith)
+
+same-length : tie.Need-same-length
+same-length c = search needs
+
+returns : tie.Need-returns
+returns c =
+    let a = c .before .before .before .before .before .before .args in
+    rw (directory-plain (a .pcm) (a .waves) (a .start) (c .before .before .before .before .if1 .taken)) (c .before .before .put-wave-entries .ensures)
+
+cast-put-entry : tie.Need-cast-put-entry
+cast-put-entry c = search needs
+
+cast-put-entry-2 : tie.Need-cast-put-entry-2
+cast-put-entry-2 c = search needs
+
+put-entry-requires : tie.Need-put-entry-requires
+put-entry-requires c κs =
+    let a = c .before .before .before .args in
+    omega (arith, directory-some (a .pcm) (a .waves) (a .start) (c .before .if1 .left))
+
+add-put-wave-entries : tie.Need-add-put-wave-entries
+add-put-wave-entries c = search needs
+
+put-wave-entries-requires-2 : tie.Need-put-wave-entries-requires-2
+put-wave-entries-requires-2 c κs =
+    let a = c .before .before .before .before .before .before .before .args in
+    let whole = directory-some (a .pcm) (a .waves) (a .start) (c .before .before .before .before .before .if1 .left) in
+    (omega arith, omega arith, omega arith)
+
+same-length-2 : tie.Need-same-length-2
+same-length-2 c = search needs
+
+returns-2 : tie.Need-returns-2
+returns-2 c =
+    let a = c .before .before .before .before .before .before .before .before .before .before .args in
+    let whole = directory-some (a .pcm) (a .waves) (a .start) (c .before .before .before .before .before .before .before .before .if1 .left) in
+    let is = directory-pcm (a .pcm) (a .waves) (a .start) (c .before .before .before .before .before .before .before .before .if1 .left) in
+    rw (c .before .before .put-wave-entries2 .ensures, c .before .before .before .before .before .before .put-entry .ensures, is)
+    (sym (put-next (entryBytes 0 2 (a .pcm) (a .start)) (waveEntries 1 (a .start + a .pcm) (a .waves)) 40 16 (a .buffer .now) (entry-size 0 2 (a .pcm) (a .start)) (rw is at (c .before .before .before .before .before .before .before .before .before .before .pre .0))))
+
+pub put-directory-spec : {M : Type 1} → statement M
+put-directory-spec =
+    tie.close
+    (tie.spec
+    put-wave-entries-requires
+    same-length
+    returns
+    cast-put-entry
+    cast-put-entry-2
+    put-entry-requires
+    add-put-wave-entries
+    put-wave-entries-requires-2
+    same-length-2
+    returns-2)
