@@ -1,3 +1,4 @@
 pub mod Surface
 pub mod Play
 pub mod Repack
+pub mod Comparison

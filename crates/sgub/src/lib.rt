@@ -1,7 +1,10 @@
 // The static library's surface: include/sgub.h declares these functions for C, rust/sgub for Rust.
+mod comparison;
 mod play;
 mod repack;
 
+pub use comparison::SgubCompared;
+pub use comparison::sgub_compare;
 use file_check::FileAnswer;
 use file_check::PoolFound;
 use format::CardRequirement;
