@@ -1,6 +1,6 @@
 //! Where two files differ that the comparison told apart.
 
-use crate::{Header, Verdict, WriteRecord, check, pool_entry};
+use crate::{Header, IMAGE_SIZE, Verdict, WriteRecord, check, pool_entry};
 use std::fmt;
 
 /// The first difference between a master and a file of version 2, in the order in which the format sheet's rule names what
@@ -84,6 +84,12 @@ fn in_opening(files: [(&[u8], &Header); 2]) -> Option<Difference> {
 }
 
 fn in_pcm(master: &[u8], other: &[u8]) -> Option<Difference> {
+    // Bytes behind an image are not of it.
+    let [master, other] = [master, other].map(|image| &image[..image.len().min(IMAGE_SIZE)]);
+    // Most images agree, and this is much quicker than a search.
+    if master == other {
+        return None;
+    }
     let address = master.iter().zip(other).position(|(a, b)| a != b)?;
     let values = [master[address], other[address]];
     Some(Difference::Pcm { address, values })
