@@ -1,4 +1,1 @@
-pub mod Surface
 pub mod Play
-pub mod Repack
-pub mod Comparison

@@ -1,8 +1,8 @@
--- `sgub::comparison::refused` meets its contract. Assumes nothing.
+-- `answers::comparison::refused` meets its contract. Assumes nothing.
 use borrow.Author.Needs.{needs}
 use mathlib.Core.Path.{refl}
-use Rattle.sgub.proofs.comparison.refused.Statement.{statement}
-use Rattle.sgub.proofs.comparison.refused.Tie as tie
+use Rattle.answers.proofs.comparison.refused.Statement.{statement}
+use Rattle.answers.proofs.comparison.refused.Tie as tie
 
 number-requires : tie.Need-number-requires
 number-requires c κs = search needs

@@ -1,7 +1,7 @@
--- `sgub::comparison::answer` meets its contract. Assumes nothing.
+-- `answers::comparison::compared_of` meets its contract. Assumes nothing.
 use borrow.Author.Needs.{needs}
-use Rattle.sgub.proofs.comparison.answer.Statement.{statement}
-use Rattle.sgub.proofs.comparison.answer.Tie as tie
+use Rattle.answers.proofs.comparison.compared_of.Statement.{statement}
+use Rattle.answers.proofs.comparison.compared_of.Tie as tie
 
 enum-told : tie.Need-enum-told
 enum-told c = search needs
@@ -33,8 +33,8 @@ returns-3 c = simp (c .before .before .comparison .given .1, ← (c .refused .en
 returns-4 : tie.Need-returns-4
 returns-4 c = simp (c .before .before .comparison2 .given .1, ← (c .refused2 .ensures))
 
-pub answer-spec : {M : Type 1} → statement M
-answer-spec =
+pub compared-of-spec : {M : Type 1} → statement M
+compared-of-spec =
     tie.close
     (tie.spec
     enum-told

@@ -1,13 +1,13 @@
--- `sgub::card_at` meets its contract: a table has eight cards. Assumes nothing.
+-- `answers::card::card_at` meets its contract: a table has eight cards. Assumes nothing.
 use borrow.Author.Needs.{needs}
 use borrow.Author.Tests.{lt-ltb, le-ltb}
 use native.Mathlib.Omega.{arith}
 use mathlib.Core.Path.{ap}
 use Rattle.format.proofs.Cards.{eight}
-use Rattle.sgub.specs.Surface.{cardFields}
-use Rattle.sgub.proofs.Cards.{getD-any}
-use Rattle.sgub.proofs.card_at.Statement.{statement}
-use Rattle.sgub.proofs.card_at.Tie as tie
+use Rattle.answers.specs.Surface.{cardFields}
+use Rattle.answers.proofs.Cards.{getD-any}
+use Rattle.answers.proofs.card.card_at.Statement.{statement}
+use Rattle.answers.proofs.card.card_at.Tie as tie
 
 mul-card : tie.Need-mul-card
 mul-card c = search needs

@@ -8,12 +8,15 @@ use Rattle.format.specs.declared.card.CardTable.{CardTable}
 use Rattle.format.specs.declared.header.Header.{Header}
 use Rattle.format.specs.declared.pool.Pool.{Pool}
 use Rattle.format.specs.Checked.{Checked, ok, refused}
+use Rattle.format.specs.Compare.{Compared, agreed, refusedFile}
 use Rattle.format.specs.State.{noCard}
 use Rattle.file_check.specs.Answer.{Recorded}
-use Rattle.sgub.specs.declared.SgubVerdict.{SgubVerdict}
-use Rattle.sgub.specs.declared.SgubCard.{SgubCard}
-use Rattle.sgub.specs.declared.SgubPool.{SgubPool}
-use Rattle.sgub.specs.declared.SgubPoolEntry.{SgubPoolEntry}
+use Rattle.answers.specs.declared.verdict.SgubVerdict.{SgubVerdict}
+use Rattle.answers.specs.declared.card.SgubCard.{SgubCard}
+use Rattle.answers.specs.declared.pool.SgubPool.{SgubPool}
+use Rattle.answers.specs.declared.pool.SgubPoolEntry.{SgubPoolEntry}
+use Rattle.answers.specs.declared.repacked.SgubRepacked.{SgubRepacked}
+use Rattle.answers.specs.declared.comparison.SgubCompared.{SgubCompared}
 
 -- an accepted file: number 0
 abbrev pub acceptedAs : Header → (uses : Bool) → SgubVerdict
@@ -43,3 +46,12 @@ poolOn (refused number place) = record { number = number; place = place; kind = 
 
 abbrev pub entryFields : Pool → SgubPoolEntry
 entryFields pool = record { kind = pool .kind; size = pool .size; offset = pool .offset }
+
+abbrev pub repackedOn : Checked ℕ → SgubRepacked
+repackedOn (ok size) = record { number = 0; place = 0; size = size }
+repackedOn (refused number place) = record { number = number; place = place; size = 0 }
+
+-- a refusal with the file that it names, 1 for the master and 2 for the other, and 0 where none is refused
+abbrev pub comparedOn : Compared → SgubCompared
+comparedOn (agreed passed) = record { file = 0; number = 0; place = 0; passed = passed }
+comparedOn (refusedFile file number place) = record { file = file; number = number; place = place; passed = false }
