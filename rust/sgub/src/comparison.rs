@@ -34,6 +34,21 @@ pub enum Side {
 /// Refused is the first to which a refusal applies: the master's 1 to 21, where [`check`](crate::check) refuses it or its
 /// version is not 1; the other file's 1 to 21, where its version is to be 2; 24 where the master's image is too short, then
 /// where the other's is. The images are then as they were.
+///
+/// # Examples
+///
+/// ```
+/// use sgub::{Comparison, IMAGE_SIZE, compare, repack_to_vec};
+///
+/// // Version 1, one empty frame.
+/// let master = b"SGUB\x01\x10\0\0\0\0\0\x01\0\0\0\0\0\0\0\x16\0\0";
+/// let other = repack_to_vec(master).unwrap();
+/// let mut images = [vec![0; IMAGE_SIZE], vec![0; IMAGE_SIZE]];
+/// let [master_image, other_image] = &mut images;
+/// let comparison = compare(master, &other, master_image, other_image);
+/// assert_eq!(comparison, Comparison::Passed);
+/// assert!(images[0].iter().all(|byte| *byte == 0x80));
+/// ```
 pub fn compare(
     master: &[u8],
     other: &[u8],
