@@ -4,6 +4,9 @@ use crate::model::{Operation, PCM, PCM_MEMORY, Pool, Stream, WAVE, WAVE_MEMORY};
 use crate::rng::Rng;
 use std::collections::BTreeMap;
 
+/// The most writes of a FILL or COPY that is made of a master's.
+const LONGEST: u32 = 4096;
+
 /// Which operations are used.
 #[derive(Clone, Copy, Debug, PartialEq, Eq)]
 pub enum Style {
@@ -86,7 +89,8 @@ impl Packer<'_> {
         operations
     }
 
-    /// An operation for the first writes, and how many these are.
+    /// An operation for the first writes, and how many these are. It looks no further ahead than it may go, so that a long run
+    /// takes no longer than several short ones.
     fn next(&mut self, writes: &[Write]) -> (Operation, usize) {
         let (target, address, value) = writes[0];
         let space = if target == PCM {
@@ -94,19 +98,19 @@ impl Packer<'_> {
         } else {
             WAVE_MEMORY
         };
-        let run = consecutive(writes).min(space.saturating_sub(address) as usize);
         let plain = (Operation::write(target, address, value), 1);
-        if self.style == Style::Writes || run == 0 || self.rng.one_in(4) {
+        if self.style == Style::Writes || address >= space || self.rng.one_in(4) {
             return plain;
         }
-        let alike = writes[..run]
-            .iter()
-            .take_while(|write| write.2 == value)
-            .count();
+        let room = (space - address).min(LONGEST) as usize;
+        let ahead = &writes[..writes.len().min(room)];
+        let alike = ahead.iter().take_while(|write| write.2 == value).count();
+        let alike = consecutive(&ahead[..alike]);
         if self.style == Style::Fills || alike > 1 && self.rng.one_in(2) {
             let count = 1 + self.rng.index(alike);
             return (Operation::fill(target, address, count as u32, value), count);
         }
+        let run = consecutive(ahead);
         let is_wave = address.is_multiple_of(WAVE) && run >= WAVE as usize;
         let (kind, count) = match (target == PCM, is_wave) {
             (true, _) => (2, 1 + self.rng.index(run)),
