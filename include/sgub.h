@@ -1,4 +1,4 @@
-/* The SGUB library: the verdict on a stream file, its cards and its pools, the player, and repacking.
+/* The SGUB library: the verdict on a stream file, its cards and its pools, the player, repacking, and the comparison.
  *
  * Every function takes any bytes, ends, and keeps no pointer. A file is a pointer and a length; a file of length 0 may have any
  * pointer but NULL. What the numbers mean is in the format sheet's list of refusals. */
@@ -162,6 +162,24 @@ struct sgub_repacked {
  * buffer's start, and the bytes behind it stay as they were; a refusal writes nothing. 0xE00000 bytes are room for every result. The
  * buffer may not overlap the file; a buffer of 0 bytes may have any pointer but NULL. */
 struct sgub_repacked sgub_repack(const uint8_t *file, size_t length, uint8_t *buffer, size_t room);
+
+/* The bytes of a memory image. */
+#define SGUB_IMAGE_SIZE 1048576
+
+/* The answer of a comparison. */
+struct sgub_compared {
+    uint32_t file;   /* 0: no file is refused; 1: the master is; 2: the other file is */
+    uint32_t number; /* 0; or the number of that file's refusal, 1 to 21, or 24: its image is too short */
+    uint64_t place;  /* the place of the refusal */
+    bool passed;     /* the files sound the same; false for a refusal */
+};
+
+/* Compares a master, which is a file of version 1, with a file of version 2: repeat and frame count, the opening's writes to the
+ * cores, PCM memory after the opening, and each frame's writes. Pass or fail, each image then holds, in its first SGUB_IMAGE_SIZE bytes,
+ * the PCM memory that its file's opening leaves, which begins at 0x80; the bytes behind it stay as they were, and a refusal writes
+ * nothing. The images overlap neither each other nor a file; an image of 0 bytes may have any pointer but NULL. */
+struct sgub_compared sgub_compare(const uint8_t *master, size_t master_length, const uint8_t *other, size_t other_length,
+                                  uint8_t *master_image, size_t master_room, uint8_t *other_image, size_t other_room);
 
 #ifdef __cplusplus
 }

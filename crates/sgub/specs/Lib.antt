@@ -1,3 +1,1 @@
-pub mod Surface
 pub mod Play
-pub mod Repack

@@ -4,7 +4,7 @@ use crate::status::{Failure, Status};
 use std::io::Write;
 
 const HELP: &str = "\
-sgub checks, plays and repacks SGUB music streams.
+sgub checks, plays, repacks and compares SGUB music streams.
 
   sgub check FILE...         print a line for each file:
                                accepted VERSION FRAMES OPENING
@@ -22,14 +22,19 @@ sgub checks, plays and repacks SGUB music streams.
                                repacked BYTES
                                refused NUMBER PLACE
                              RESULT is replaced only when the new one is whole
+  sgub compare MASTER OTHER  compare a file of version 1 with one of version 2 and print
+                               passed
+                               failed, and a line that says where they first differ
+                               refused master NUMBER PLACE
+                               refused other NUMBER PLACE
   sgub help                  print this text
   sgub --version             print the version of this command
 
 FILE - is standard input. Behind -- every argument is a file.
 
-Exit status: 0 every file is accepted, 1 a file is refused, 2 could not run: a file that
-cannot be read (the others are still checked) or written, or a command that is not
-understood.
+Exit status: 0 every file is accepted, 1 a file is refused or a comparison failed, 2 could
+not run: a file that cannot be read (the others are still checked) or written, or a
+command that is not understood.
 ";
 
 /// Prints the commands.

@@ -2,6 +2,7 @@
 #![forbid(unsafe_code)]
 
 mod check;
+mod compare;
 mod explain;
 mod help;
 mod input;
@@ -32,6 +33,7 @@ fn run(arguments: &[OsString], out: &mut impl Write) -> Result<Status, Failure> 
     };
     match command.to_str() {
         Some("check") => check::run(arguments, out),
+        Some("compare") => compare::run(arguments, out),
         Some("explain") => explain::run(arguments, out),
         Some("play") => play::run(arguments, out),
         Some("repack") => repack::run(arguments, out),

@@ -7,9 +7,9 @@ use std::process::ExitCode;
 /// What a run says by its exit status. Of several files the worst counts, so the order matters.
 #[derive(Clone, Copy, Debug, PartialEq, Eq, PartialOrd, Ord)]
 pub enum Status {
-    /// Every file is accepted, or the result is written.
+    /// Every file is accepted, the result is written, or the comparison passed.
     Accepted = 0,
-    /// A file is refused.
+    /// A file is refused, or the comparison failed.
     Refused = 1,
     /// A file could not be read or written, or the command could not be understood.
     CouldNotRun = 2,

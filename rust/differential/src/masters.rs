@@ -130,8 +130,15 @@ impl Masters {
         }
     }
 
-    /// The next master: the opening of one shape, and the frames of it and of a few others, or of hundreds.
+    /// The next master as bytes.
     pub fn next_file(&mut self) -> &[u8] {
+        self.next_stream();
+        self.stream.write(&mut self.file, &mut ());
+        &self.file
+    }
+
+    /// The next master: the opening of one shape, and the frames of it and of a few others, or of hundreds.
+    pub fn next_stream(&mut self) -> &Stream {
         let rng = &mut self.rng;
         let shape = if rng.one_in(SELDOM) {
             Shape::PcmFull
@@ -148,8 +155,7 @@ impl Masters {
             any(rng).draw(1, rng, &mut self.part);
             self.stream.frames.append(&mut self.part.frames);
         }
-        self.stream.write(&mut self.file, &mut ());
-        &self.file
+        &self.stream
     }
 }
 

@@ -184,6 +184,7 @@ pub fn advance_vsync(player: &mut Player, file: &[u8], run: &mut [WriteRecord]) 
     }
 }
 
+pub mod comparison;
 pub mod repack;
 
 #[cfg(test)]

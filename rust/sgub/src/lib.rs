@@ -1,16 +1,21 @@
-//! The proved SGUB library for Rust: the verdict on a stream file, its cards and its pools, its player, and repacking.
+//! The proved SGUB library for Rust: the verdict on a stream file, its cards and its pools, its player, repacking, and the
+//! comparison.
 //!
 //! The library is `crates/sgub` of this repository, and its contracts say what each function answers. This package only
 //! declares its C functions again and makes them safe to call; it decides nothing about a file. Every function takes any
-//! bytes.
+//! bytes. [`first_difference`] alone is not of the library: it says where two files differ that the library told apart.
 #![deny(unsafe_code)]
 #![warn(missing_docs)]
 
+mod comparison;
+mod difference;
 #[allow(unsafe_code)]
 mod ffi;
 mod player;
 mod repack;
 
+pub use comparison::{Comparison, IMAGE_SIZE, Side, compare};
+pub use difference::{Difference, first_difference};
 pub use player::{OtherFile, StreamPlayer, Vsync, WriteRecord};
 pub use repack::{LONGEST_RESULT, repack, repack_to_vec};
 
@@ -26,7 +31,7 @@ pub enum Verdict {
 /// Why a file is refused, as the format sheet's list has it.
 #[derive(Clone, Copy, Debug, PartialEq, Eq)]
 pub struct Refusal {
-    /// The number of the refusal: 1 to 20, and for repacking up to 24.
+    /// The number of the refusal: 1 to 20, and for repacking and comparing up to 24.
     pub number: u32,
     /// The place that the sheet gives for this number; at most the file's length.
     pub place: usize,

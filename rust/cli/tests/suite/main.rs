@@ -1,6 +1,7 @@
 //! Runs the command and compares output and exit status, byte for byte.
 
 mod check;
+mod compare;
 mod explain;
 mod launcher;
 mod play;

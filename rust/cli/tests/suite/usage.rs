@@ -50,6 +50,7 @@ fn help_names_every_command() {
         "explain [--all] FILE",
         "play [OPTION]... FILE",
         "repack MASTER RESULT",
+        "compare MASTER OTHER",
         "help",
         "--version",
     ] {

@@ -1,5 +1,6 @@
 //! What the original says about the sheet's examples, what its repacker does, and what the generators make.
 
+mod comparing;
 mod examples;
 mod generators;
 mod large;

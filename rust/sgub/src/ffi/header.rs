@@ -1,5 +1,6 @@
 //! Holds the declarations of this module against `include/sgub.h`, by a C compiler.
 
+use super::comparison::Compared;
 use super::repack::Repacked;
 use super::{
     Card, CardTable, Header, Player, Pool, PoolEntry, Progress, Started, Verdict, Vsync, WaveSource,
@@ -151,6 +152,15 @@ fn layouts() -> [Layout; 13] {
                 size,
             }
         ),
+        layout!(
+            "sgub_compared",
+            Compared {
+                file,
+                number,
+                place,
+                passed,
+            }
+        ),
     ]
 }
 
@@ -184,6 +194,9 @@ struct sgub_started sgub_start(const unsigned char *, unsigned long);
 struct sgub_vsync sgub_advance_vsync(
     struct sgub_player *, const unsigned char *, unsigned long, struct sgub_write *, unsigned long);
 struct sgub_repacked sgub_repack(const unsigned char *, unsigned long, unsigned char *, unsigned long);
+struct sgub_compared sgub_compare(
+    const unsigned char *, unsigned long, const unsigned char *, unsigned long,
+    unsigned char *, unsigned long, unsigned char *, unsigned long);
 ";
 
 /// P3 of the format sheet, and P3 with another version.
@@ -200,6 +213,17 @@ int main(void) {
     repacked = sgub_repack(file, sizeof file, buffer, sizeof buffer);
     if (repacked.number != 0 || repacked.size != 42 || buffer[4] != 2 || buffer[42] != 0xA5)
         return 5;
+    static uint8_t images[2][SGUB_IMAGE_SIZE + 1];
+    struct sgub_compared compared = sgub_compare(
+        file, sizeof file, buffer, 42, images[0], SGUB_IMAGE_SIZE, images[1], SGUB_IMAGE_SIZE - 1);
+    if (compared.file != 2 || compared.number != 24 || compared.passed || images[0][0] != 0)
+        return 6;
+    compared = sgub_compare(
+        file, sizeof file, buffer, 42, images[0], SGUB_IMAGE_SIZE, images[1], SGUB_IMAGE_SIZE + 1);
+    if (compared.file != 0 || compared.number != 0 || compared.place != 0 || !compared.passed)
+        return 7;
+    if (images[0][0] != 0x80 || images[1][SGUB_IMAGE_SIZE - 1] != 0x80 || images[1][SGUB_IMAGE_SIZE] != 0)
+        return 8;
     file[4] = 5;
     verdict = sgub_check(file, sizeof file);
     if (verdict.number != 3 || verdict.place != 0 || verdict.version != 0)

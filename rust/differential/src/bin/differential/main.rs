@@ -2,9 +2,11 @@
 #![forbid(unsafe_code)]
 
 mod bench;
+mod bench_compare;
 mod bench_play;
 mod bench_repack;
 mod commands;
+mod compares;
 mod play_vectors;
 mod plays;
 mod repacks;
@@ -26,10 +28,12 @@ const USAGE: &str = "usage: differential verdict FILE...
        differential vectors DIRECTORY COUNT
        differential play-vectors DIRECTORY COUNT
        differential repack-vectors DIRECTORY COUNT
+       differential compare-vectors DIRECTORY COUNT
        differential verdicts COUNT [SEED]
        differential plays COUNT [SEED]
        differential repacks COUNT [SEED]
-       differential bench [play | repack]
+       differential compares COUNT [SEED]
+       differential bench [play | repack | compare]
        differential selftest [COUNT]
        differential speed [COUNT]";
 
@@ -71,6 +75,9 @@ fn run(arguments: &[&str], out: &mut impl Write) -> Answer {
         ["repack-vectors", directory, count] => {
             repacks::write_vectors(directory, count.parse()?, out)
         }
+        ["compare-vectors", directory, count] => {
+            compares::write_vectors(directory, count.parse()?, out)
+        }
         ["verdicts", count] => verdicts::verdicts(count.parse()?, 1, out),
         ["verdicts", count, seed] => verdicts::verdicts(count.parse()?, seed.parse()?, out),
         ["plays", count] => plays::plays(count.parse()?, 1, out),
@@ -80,6 +87,9 @@ fn run(arguments: &[&str], out: &mut impl Write) -> Answer {
         ["repacks", count] => repacks::repacks(count.parse()?, 1, out),
         ["repacks", count, seed] => repacks::repacks(count.parse()?, seed.parse()?, out),
         ["bench", "repack"] => bench_repack::bench(out),
+        ["compares", count] => compares::compares(count.parse()?, 1, out),
+        ["compares", count, seed] => compares::compares(count.parse()?, seed.parse()?, out),
+        ["bench", "compare"] => bench_compare::bench(out),
         ["selftest"] => selftest::selftest(1000, out),
         ["selftest", count] => selftest::selftest(count.parse()?, out),
         ["speed"] => selftest::speed(1_000_000, out),

@@ -71,7 +71,7 @@ fn run(work: &Work) -> Played {
             if oracle::judge(file).is_err() || weight::writes(file) > MOST_WRITES {
                 continue;
             }
-            if work.compare(file, || comparison.play(file)).is_none() {
+            if work.compare(&[file], || comparison.play(file)).is_none() {
                 break;
             }
             done += 1;

@@ -112,7 +112,7 @@ fn run(work: &Work, thread: usize, threads: usize) -> Counts {
     let mut counts = Counts::default();
     let mut buffer = Vec::new();
     let mut compare = |file: &[u8]| {
-        let outcome = work.compare(file, || repacking::repack(file, &mut buffer));
+        let outcome = work.compare(&[file], || repacking::repack(file, &mut buffer));
         if let Some(outcome) = outcome {
             counts.count(outcome);
         }

@@ -54,7 +54,7 @@ fn report(counts: &Counts, out: &mut impl Write) -> io::Result<()> {
 fn run(work: &Work, thread: usize, threads: usize) -> Counts {
     let mut counts = Counts::default();
     let mut compare = |file: &[u8]| {
-        let verdict = work.compare(file, || compare::verdict(file));
+        let verdict = work.compare(&[file], || compare::verdict(file));
         if let Some(verdict) = &verdict {
             counts.count(verdict);
         }

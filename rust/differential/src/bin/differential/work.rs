@@ -7,8 +7,8 @@ use std::panic::{self, AssertUnwindSafe};
 use std::sync::Mutex;
 use std::{fs, thread};
 
-/// Where the first file goes that the two do not agree on.
-const DIFFERENCE: &str = "difference.sgub";
+/// Where the first files go that the two do not agree on: one, or the two that are compared.
+const DIFFERENCE: [&str; 2] = ["difference.sgub", "difference-2.sgub"];
 
 /// The threads that the machine has.
 pub fn threads() -> usize {
@@ -28,7 +28,7 @@ struct State {
 }
 
 struct Difference {
-    file: Vec<u8>,
+    files: Vec<Vec<u8>>,
     text: String,
 }
 
@@ -67,11 +67,11 @@ impl Work {
         (share > 0).then_some((seed, share))
     }
 
-    /// What a comparison of a file gives; none where the two differ, and then nothing is left to do. A panic is a difference,
-    /// whose file is wanted most.
+    /// What a comparison of a file, or of two, gives; none where library and original differ, and then nothing is left to do. A
+    /// panic is a difference, whose files are wanted most.
     pub fn compare<T>(
         &self,
-        file: &[u8],
+        files: &[&[u8]],
         compare: impl FnOnce() -> Result<T, String>,
     ) -> Option<T> {
         let answer = panic::catch_unwind(AssertUnwindSafe(compare));
@@ -80,25 +80,25 @@ impl Work {
             Err(text) => {
                 let mut state = self.state.lock().expect("no thread panicked");
                 state.left = 0;
-                let file = file.to_vec();
-                state.difference.get_or_insert(Difference { file, text });
+                let files = files.iter().map(|file| file.to_vec()).collect();
+                state.difference.get_or_insert(Difference { files, text });
                 None
             }
         }
     }
 
-    /// Prints the difference, if there is one, and keeps its file.
+    /// Prints the difference, if there is one, and keeps its files.
     pub fn differs(self, out: &mut impl Write) -> io::Result<bool> {
         let state = self.state.into_inner().expect("no thread panicked");
-        let Some(Difference { file, text }) = state.difference else {
+        let Some(Difference { files, text }) = state.difference else {
             return Ok(false);
         };
-        fs::write(DIFFERENCE, &file)?;
-        let length = file.len();
-        writeln!(
-            out,
-            "DIFFERENCE: {text}\nthe file is {DIFFERENCE}, {length} bytes"
-        )?;
+        writeln!(out, "DIFFERENCE: {text}")?;
+        for (name, file) in DIFFERENCE.iter().zip(files) {
+            fs::write(name, &file)?;
+            let length = file.len();
+            writeln!(out, "the file is {name}, {length} bytes")?;
+        }
         Ok(true)
     }
 }

@@ -1,0 +1,32 @@
+-- `answers::card::card_at` meets its contract: a table has eight cards. Assumes nothing.
+use borrow.Author.Needs.{needs}
+use borrow.Author.Tests.{lt-ltb, le-ltb}
+use native.Mathlib.Omega.{arith}
+use mathlib.Core.Path.{ap}
+use Rattle.format.proofs.Cards.{eight}
+use Rattle.answers.specs.Surface.{cardFields}
+use Rattle.answers.proofs.Cards.{getD-any}
+use Rattle.answers.proofs.card.card_at.Statement.{statement}
+use Rattle.answers.proofs.card.card_at.Tie as tie
+
+mul-card : tie.Need-mul-card
+mul-card c = search needs
+
+element-copy-out-card : tie.Need-element-copy-out-card
+element-copy-out-card c = search needs
+
+card-of-requires : tie.Need-card-of-requires
+card-of-requires c κs = search needs
+
+returns : tie.Need-returns
+returns c =
+    let s = c .before .before .before in
+    let t = s .args .t1 in
+    rw (c .card-of .ensures, lt-ltb _ _ (c .before .before .if1 .taken)) (ap cardFields (getD-any (t .cards) (s .args .index) _ _ (omega (arith, eight t _ (s .good .0)))))
+
+returns-2 : tie.Need-returns-2
+returns-2 c = simp (le-ltb _ _ (c .if1 .left))
+
+pub card-at-spec : {M : Type 1} → statement M
+card-at-spec =
+    tie.close (tie.spec mul-card element-copy-out-card card-of-requires returns returns-2)

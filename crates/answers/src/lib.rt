@@ -1,0 +1,19 @@
+// The answers of the library as plain numbers, for C and Rust: the kit exports no type that holds an enum.
+mod card;
+mod comparison;
+mod pool;
+mod repacked;
+mod verdict;
+
+pub use card::SgubCard;
+pub use card::card_at;
+pub use comparison::SgubCompared;
+pub use comparison::compared_of;
+pub use pool::SgubPool;
+pub use pool::SgubPoolEntry;
+pub use pool::entry_of;
+pub use pool::pool_of;
+pub use repacked::SgubRepacked;
+pub use repacked::repacked_of;
+pub use verdict::SgubVerdict;
+pub use verdict::verdict_of;

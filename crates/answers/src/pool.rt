@@ -1,0 +1,58 @@
+// A pool as plain numbers: the kit exports no reference, so its payload is an offset and a size.
+use pool_lookup::PoolFound;
+use format::Pool;
+ghost use mathlib.Core.Path.{_≡_};
+ghost use Rattle.pool_lookup.specs.Found.{poolFoundOf};
+ghost use Rattle.answers.specs.Surface.{entryFields, poolOn};
+
+// A pool: its kind, and the part of the file that is its payload; or the refusal of the file.
+#[repr(C)]
+pub struct SgubPool {
+    pub number: u32,
+    pub place: u64,
+    pub kind: u8,
+    pub offset: u64,
+    pub size: u64,
+}
+
+// An entry of the directory.
+#[repr(C)]
+pub struct SgubPoolEntry {
+    pub kind: u8,
+    pub size: u32,
+    pub offset: u32,
+}
+
+pub fn pool_of(found: PoolFound) -> SgubPool
+    ensures { λ r. ⌜ r ≡ poolOn (poolFoundOf found) ⌝ }
+{
+    match found {
+        PoolFound::Entry(pool) => SgubPool {
+            number: 0,
+            place: 0,
+            kind: pool.kind,
+            offset: pool.offset as u64,
+            size: pool.size as u64,
+        },
+        PoolFound::Refused(refusal) => {
+            let rule = refusal.rule;
+            SgubPool {
+                number: numbers::number(rule),
+                place: refusal.place as u64,
+                kind: 0,
+                offset: 0,
+                size: 0,
+            }
+        }
+    }
+}
+
+pub fn entry_of(pool: Pool) -> SgubPoolEntry
+    ensures { λ r. ⌜ r ≡ entryFields pool ⌝ }
+{
+    SgubPoolEntry {
+        kind: pool.kind,
+        size: pool.size,
+        offset: pool.offset,
+    }
+}

@@ -1,0 +1,274 @@
+//! Where two files differ that the comparison told apart.
+
+use crate::{Header, IMAGE_SIZE, Verdict, WriteRecord, check, pool_entry};
+use std::fmt;
+
+/// The first difference between a master and a file of version 2, in the order in which the format sheet's rule names what
+/// has to agree. Of a pair the master's comes first. Frames, writes and so on are numbered from 1.
+#[derive(Clone, Copy, Debug, PartialEq, Eq)]
+pub enum Difference {
+    /// One repeats, and the other does not.
+    Repeat([bool; 2]),
+    /// The frame counts.
+    FrameCount([u32; 2]),
+    /// A write to the cores in the opening. The writes to both cores are one sequence; `None` is behind the end of one.
+    Opening {
+        /// The number of the write among those to the cores.
+        write: u64,
+        /// The writes.
+        writes: [Option<WriteRecord>; 2],
+    },
+    /// A byte of PCM memory after the opening.
+    Pcm {
+        /// Its address.
+        address: usize,
+        /// The bytes.
+        values: [u8; 2],
+    },
+    /// A write of a frame; `None` is behind the end of one.
+    Frame {
+        /// The number of the frame.
+        frame: u32,
+        /// The number of the write in it.
+        write: u64,
+        /// The writes.
+        writes: [Option<WriteRecord>; 2],
+    },
+}
+
+/// The first difference between a master and a file of version 2, with the images that [`compare`](crate::compare) left.
+///
+/// Where the comparison failed there is one, and where it passed there is none; there is none either between other files.
+/// The two are read side by side up to the difference, so the time goes by the length of the files, however many writes the
+/// other file's operations stand for.
+pub fn first_difference(
+    master: &[u8],
+    other: &[u8],
+    master_image: &[u8],
+    other_image: &[u8],
+) -> Option<Difference> {
+    let headers = [version(master, 1)?, version(other, 2)?];
+    let [ours, theirs] = headers;
+    if ours.repeats != theirs.repeats {
+        return Some(Difference::Repeat([ours.repeats, theirs.repeats]));
+    }
+    if ours.frame_count != theirs.frame_count {
+        let counts = [ours.frame_count, theirs.frame_count];
+        return Some(Difference::FrameCount(counts));
+    }
+    let files = [(master, &headers[0]), (other, &headers[1])];
+    in_opening(files)
+        .or_else(|| in_pcm(master_image, other_image))
+        .or_else(|| in_frames(files))
+}
+
+fn version(file: &[u8], version: u8) -> Option<Header> {
+    match check(file) {
+        Verdict::Accepted(header) if header.version == version => Some(header),
+        _ => None,
+    }
+}
+
+fn in_opening(files: [(&[u8], &Header); 2]) -> Option<Difference> {
+    let mut openings = files.map(|(file, header)| Writes {
+        cores_only: true,
+        ..Writes::new(
+            file,
+            header,
+            header.initial_start as usize,
+            header.initial_count,
+        )
+    });
+    let (write, writes) = first(&mut openings)?;
+    Some(Difference::Opening { write, writes })
+}
+
+fn in_pcm(master: &[u8], other: &[u8]) -> Option<Difference> {
+    // Bytes behind an image are not of it.
+    let [master, other] = [master, other].map(|image| &image[..image.len().min(IMAGE_SIZE)]);
+    // Most images agree, and this is much quicker than a search.
+    if master == other {
+        return None;
+    }
+    let address = master.iter().zip(other).position(|(a, b)| a != b)?;
+    let values = [master[address], other[address]];
+    Some(Difference::Pcm { address, values })
+}
+
+fn in_frames(files: [(&[u8], &Header); 2]) -> Option<Difference> {
+    let mut places = files.map(|(_, header)| header.frame_start as usize);
+    for frame in 1..=files[0].1.frame_count {
+        let mut frames = std::array::from_fn(|index| {
+            let (file, header) = files[index];
+            let at = places[index];
+            let count = number(&file[at..at + 2]);
+            Writes::new(file, header, at + 2, count)
+        });
+        if let Some((write, writes)) = first(&mut frames) {
+            return Some(Difference::Frame {
+                frame,
+                write,
+                writes,
+            });
+        }
+        // Both were read to their ends.
+        places = frames.map(|frame| frame.at);
+    }
+    None
+}
+
+/// The number of the first write that is not the same in both, and the writes.
+fn first(both: &mut [Writes; 2]) -> Option<(u64, [Option<WriteRecord>; 2])> {
+    for number in 1.. {
+        match both.each_mut().map(Writes::next) {
+            [None, None] => break,
+            [ours, theirs] if ours == theirs => {}
+            writes => return Some((number, writes)),
+        }
+    }
+    None
+}
+
+/// The writes of records or operations of an accepted file of version 1 or 2.
+struct Writes<'a> {
+    file: &'a [u8],
+    header: &'a Header,
+    cores_only: bool,
+    /// Where the next record or operation starts, and how many are left.
+    at: usize,
+    left: u32,
+    /// The next write of the operation before it, how many are left, and where its value stands.
+    write: WriteRecord,
+    writes: u32,
+    source: usize,
+    step: usize,
+}
+
+impl<'a> Writes<'a> {
+    fn new(file: &'a [u8], header: &'a Header, at: usize, left: u32) -> Self {
+        Self {
+            file,
+            header,
+            cores_only: false,
+            at,
+            left,
+            write: WriteRecord::default(),
+            writes: 0,
+            source: 0,
+            step: 0,
+        }
+    }
+
+    /// Takes the next record or operation: the layouts of the format sheet.
+    fn take_operation(&mut self) {
+        let operation = &self.file[self.at..];
+        // A record of version 1 has no opcode and is a WRITE.
+        let (opcode, opcode_size) = match self.header.version {
+            1 => (0, 0),
+            _ => (operation[0], 1),
+        };
+        let fields = &operation[opcode_size..];
+        self.write.target = fields[0];
+        self.write.address = number(&fields[1..4]);
+        let fields_at = self.at + opcode_size;
+        let size;
+        (self.writes, self.source, self.step, size) = match opcode {
+            0 => (1, fields_at + 4, 0, 5),
+            1 => (number(&fields[4..8]), fields_at + 8, 0, 9),
+            _ => {
+                let id = number(&fields[4..6]) as u16;
+                let pool = pool_entry(self.file, self.header.directory_offset, id);
+                let source = pool.offset as usize + number(&fields[6..10]) as usize;
+                (number(&fields[10..14]), source, 1, 14)
+            }
+        };
+        self.at = fields_at + size;
+        self.left -= 1;
+        if self.cores_only && self.write.target > 1 {
+            self.writes = 0;
+        }
+    }
+}
+
+impl Iterator for Writes<'_> {
+    type Item = WriteRecord;
+
+    fn next(&mut self) -> Option<WriteRecord> {
+        while self.writes == 0 {
+            if self.left == 0 {
+                return None;
+            }
+            self.take_operation();
+        }
+        let value = self.file[self.source];
+        let write = WriteRecord {
+            value,
+            ..self.write
+        };
+        self.writes -= 1;
+        self.write.address += 1;
+        self.source += self.step;
+        Some(write)
+    }
+}
+
+/// A number of up to four bytes, highest byte first.
+fn number(bytes: &[u8]) -> u32 {
+    bytes
+        .iter()
+        .fold(0, |number, byte| number << 8 | u32::from(*byte))
+}
+
+impl fmt::Display for Difference {
+    /// The difference in words. A write is target, address and value.
+    fn fmt(&self, f: &mut fmt::Formatter<'_>) -> fmt::Result {
+        match *self {
+            Self::Repeat([true, _]) => {
+                f.write_str("repeat: the master repeats, the other does not")
+            }
+            Self::Repeat([false, _]) => {
+                f.write_str("repeat: the other repeats, the master does not")
+            }
+            Self::FrameCount([master, other]) => {
+                write!(f, "frame count: master {master}, other {other}")
+            }
+            Self::Opening { write, writes } => {
+                write!(f, "opening, core write {write}: {}", Words(writes))
+            }
+            Self::Pcm {
+                address,
+                values: [master, other],
+            } => write!(
+                f,
+                "PCM memory after the opening, address {address}: master {master}, other {other}"
+            ),
+            Self::Frame {
+                frame,
+                write,
+                writes,
+            } => write!(f, "frame {frame}, write {write}: {}", Words(writes)),
+        }
+    }
+}
+
+/// What each file has in one place.
+struct Words([Option<WriteRecord>; 2]);
+
+impl fmt::Display for Words {
+    fn fmt(&self, f: &mut fmt::Formatter<'_>) -> fmt::Result {
+        for (name, write) in ["master", ", other"].into_iter().zip(self.0) {
+            match write {
+                Some(write) => {
+                    let WriteRecord {
+                        target,
+                        address,
+                        value,
+                    } = write;
+                    write!(f, "{name} {target} {address} {value}")?;
+                }
+                None => write!(f, "{name} none")?,
+            }
+        }
+        Ok(())
+    }
+}
