@@ -1,4 +1,5 @@
 pub mod Counted
+pub mod Known
 pub mod Master
 pub mod Numbered
 pub mod Pieces

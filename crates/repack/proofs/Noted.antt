@@ -19,7 +19,7 @@ use Rattle.master.proofs.Master.{frames-behind}
 use Rattle.master.proofs.Result.{all-next, size-frame}
 use Rattle.master.proofs.Uses.{all-uses-next}
 use Rattle.wave_table.specs.Table.{wavesIn, Added}
-use Rattle.wave_table.proofs.Known.{added-place, added-has, added-keeps-place, added-keeps}
+use Rattle.master.proofs.Known.{added-place, added-has, added-keeps-place, added-keeps}
 use Rattle.repack.specs.Measured.{Noted, MeasuredFrame}
 
 -- ---- a use

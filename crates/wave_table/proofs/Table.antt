@@ -18,6 +18,7 @@ use Rattle.format.proofs.Same.{same-bytes}
 use Rattle.round_trip.proofs.Waves.{known-place}
 use Rattle.master.specs.Places.{waveAt}
 use Rattle.master.specs.Result.{added}
+use Rattle.master.proofs.Known.{known-snoc, place-kept, place-new, place-none, place-few}
 use Rattle.wave_hash.specs.Hash.{bucketAt}
 use Rattle.wave_hash.proofs.Hash.{same-bucket, bucket-below}
 use Rattle.wave_table.specs.Table.{wavesIn, latest, found, Chain, Table, Added}
@@ -112,41 +113,6 @@ module _ (file places : List ℕ) where
       map-snoc [] p = refl
       map-snoc (x ∷ l) p = ap (λ (m : List (List ℕ)). waveAt file x ∷ m) (map-snoc l p)
 
-pub known-snoc : (known : List (List ℕ)) (w bytes : List ℕ) → isKnown (known ++ (w ∷ [])) bytes ≡ (isKnown known bytes || sameBytes w bytes)
-unfolding isKnown
-known-snoc [] w bytes = go (sameBytes w bytes)
-  where
-    go : (b : Bool) → (b || false) ≡ b
-    go true = refl
-    go false = refl
-known-snoc (x ∷ known) w bytes = go (known-snoc known w bytes) (sameBytes x bytes)
-  where
-    go : isKnown (known ++ (w ∷ [])) bytes ≡ (isKnown known bytes || sameBytes w bytes) → (b : Bool)
-        → (b || isKnown (known ++ (w ∷ [])) bytes) ≡ (b || isKnown known bytes || sameBytes w bytes)
-    go more true = refl
-    go more false = more
-
--- the place of a wave stays, and a new one has the next place
-pub place-kept : (known more : List (List ℕ)) (bytes : List ℕ) → isKnown known bytes ≡ true → placeOf (known ++ more) bytes ≡ placeOf known bytes
-unfolding isKnown placeOf
-place-kept [] more bytes e = absurd (false≢true e)
-place-kept (x ∷ known) more bytes e = go (place-kept known more bytes) (sameBytes x bytes) e
-  where
-    go : (isKnown known bytes ≡ true → placeOf (known ++ more) bytes ≡ placeOf known bytes) → (b : Bool) → (b || isKnown known bytes) ≡ true
-        → cond b 0 (suc (placeOf (known ++ more) bytes)) ≡ cond b 0 (suc (placeOf known bytes))
-    go kept true e′ = refl
-    go kept false e′ = ap suc (kept e′)
-
-pub place-new : (known : List (List ℕ)) (w bytes : List ℕ) → isKnown known bytes ≡ false → sameBytes w bytes ≡ true → placeOf (known ++ (w ∷ [])) bytes ≡ length known
-unfolding isKnown placeOf
-place-new [] w bytes e same = rw same
-place-new (x ∷ known) w bytes e same = go (λ (e′ : isKnown known bytes ≡ false). place-new known w bytes e′ same) (sameBytes x bytes) e
-  where
-    go : (isKnown known bytes ≡ false → placeOf (known ++ (w ∷ [])) bytes ≡ length known) → (b : Bool) → (b || isKnown known bytes) ≡ false
-        → cond b 0 (suc (placeOf (known ++ (w ∷ [])) bytes)) ≡ suc (length known)
-    go new true e′ = absurd (true≢false e′)
-    go new false e′ = ap suc (new e′)
-
 -- ---- what is found is what is known
 
 -- the wave is known exactly where something is found
@@ -196,17 +162,6 @@ found-place file places at (suc count) h fresh some =
     go more false e some′ =
         let is = found-known file places at count (omega arith) ∙ ap not (ne-eqb (found file places at count) 0 (λ z. omega (arith, z, some′))) in
         more some′ ∙ ap suc (sym (place-kept known (waveAt file place ∷ []) (waveAt file at) is))
-
--- the place of a wave that is not found
-pub place-none : (known : List (List ℕ)) (bytes : List ℕ) → isKnown known bytes ≡ false → placeOf known bytes ≡ length known
-unfolding isKnown placeOf
-place-none [] bytes e = refl
-place-none (x ∷ known) bytes e = go (place-none known bytes) (sameBytes x bytes) e
-  where
-    go : (isKnown known bytes ≡ false → placeOf known bytes ≡ length known) → (b : Bool) → (b || isKnown known bytes) ≡ false
-        → cond b 0 (suc (placeOf known bytes)) ≡ suc (length known)
-    go more true e′ = absurd (true≢false e′)
-    go more false e′ = ap suc (more e′)
 
 -- a wave is known exactly where its place is among the known ones
 pub place-known : (known : List (List ℕ)) (bytes : List ℕ) → (b : Bool) → isKnown known bytes ≡ b → ltb (placeOf known bytes) (length known) ≡ b
@@ -329,3 +284,8 @@ no-waves file =
       inside = λ k less. absurd (not-suc-le-zero less);
       fresh = λ k less. absurd (not-suc-le-zero less);
     }
+
+-- the number of a wave
+pub number-few : (file heads next places : List ℕ) (count at : ℕ) → Table file heads next places count → placeOf (wavesIn file places count) (waveAt file at) ≤ 11468
+number-few file heads next places count at table =
+    omega (arith, place-few (wavesIn file places count) (waveAt file at), waves-count file places count (omega (arith, table .few, table .places-size)), table .few)

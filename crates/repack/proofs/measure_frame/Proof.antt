@@ -15,7 +15,7 @@ use Rattle.master.proofs.Pieces.{wave-long}
 use Rattle.master.proofs.Result.{waves-none, waves-wave, waves-single, size-none, size-wave, size-single}
 use Rattle.master.proofs.Uses.{uses-none, uses-wave, uses-single}
 use Rattle.wave_table.specs.Table.{wavesIn, Table}
-use Rattle.wave_table.proofs.Known.{number-few}
+use Rattle.wave_table.proofs.Table.{number-few}
 use Rattle.repack.specs.Measured.{Noted}
 use Rattle.repack.proofs.Noted.{noted-more, taken-more}
 use Rattle.repack.proofs.measure_frame.Statement.{statement}
