@@ -98,23 +98,28 @@ struct sgub_wave_source {
     uint16_t pool; /* 0 if none was */
 };
 
-/* A player: what its start recorded, then its progress. The questions of the original are reads: its version is header.version,
- * frame_count header.frame_count, repeats header.repeat, frame_period header.frame_period, card_requirements cards, frame_index
- * frame_index, uses_si22 uses_si22, is_finished finished, and wave_source of core 0 to 1 and channel 0 to 7
- * wave_sources[8 * core + channel]. */
-struct sgub_player {
-    struct sgub_header header;
-    struct sgub_card_table cards;
-    bool uses_si22; /* some operation has target 11 */
-    uint8_t part;   /* what is playing: 0 nothing yet of the next vsync, 1 the opening, 2 a frame, 3 the closing writes */
-    bool initialized;
-    bool finished;            /* every closing write was given */
+/* How far a player is. */
+struct sgub_progress {
+    uint8_t part; /* what is playing: 0 nothing yet of the next vsync, 1 the opening, 2 a frame, 3 the closing writes */
+    size_t cursor;
     uint32_t operation_index; /* operations that are done, of operation_count */
     uint32_t operation_count;
     uint32_t write_index; /* writes that are done of the operation at cursor, or of the closing writes */
     uint32_t frame_index; /* frames of this pass that are begun */
-    size_t cursor;
+    bool initialized;
+    bool finished; /* every closing write was given */
     struct sgub_wave_source wave_sources[16];
+};
+
+/* A player: what its start recorded, then its progress. The questions of the original are reads: its version is header.version,
+ * frame_count header.frame_count, repeats header.repeat, frame_period header.frame_period, card_requirements cards, uses_si22
+ * uses_si22, frame_index progress.frame_index, is_finished progress.finished, and wave_source of core 0 to 1 and channel 0 to 7
+ * progress.wave_sources[8 * core + channel]. */
+struct sgub_player {
+    struct sgub_header header;
+    struct sgub_card_table cards;
+    bool uses_si22; /* some operation has target 11 */
+    struct sgub_progress progress;
 };
 
 /* The verdict on a file as sgub_check gives it, and its player. The player of a refused file is finished. */

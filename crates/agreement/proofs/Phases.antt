@@ -20,7 +20,7 @@ use Rattle.format.specs.Checked.{ok}
 use Rattle.format.specs.Header.{headerOf}
 use Rattle.format.specs.Listener.{wavesBefore}
 use Rattle.format.specs.Player.{wavesBy, wavesByAll, frameStart, frameBegun, belongs}
-use Rattle.format.specs.State.{unplayed, tableOf, playerOf}
+use Rattle.format.specs.State.{partOf, unplayed, tableOf, playerOf}
 use Rattle.format.specs.Stream.{Stream, operationsFrom, framesFrom, openingLimit}
 use Rattle.format.specs.Writes.{writesOfAll, frameWrites, closing, vsync, vsyncOperations}
 use Rattle.format.proofs.Accepted.{Accepted, HeaderOk}
@@ -46,7 +46,7 @@ pub record Ahead (file : List ℕ) (s : Stream) (k frame more cursor : ℕ) : Ty
   pub later : framesFrom (own file s) file more cursor ≡ ok (drop frame (s .frames), length file)
 
 pub record InOpening (file : List ℕ) (s : Stream) (p : Progress) (k : ℕ) (rest : List WriteRecord) : Type 0 where
-  pub part : p .part ≡ Opening
+  pub part : partOf (p .part) ≡ Opening
   pub going : p .finished ≡ false
   pub left : ℕ
   pub pending : List WriteRecord
@@ -58,7 +58,7 @@ pub record InOpening (file : List ℕ) (s : Stream) (p : Progress) (k : ℕ) (re
   pub is : rest ≡ pending ++ frameWrites s 0
 
 pub record InFrame (file : List ℕ) (s : Stream) (p : Progress) (k : ℕ) (rest : List WriteRecord) : Type 0 where
-  pub part : p .part ≡ Frame
+  pub part : partOf (p .part) ≡ Frame
   pub going : p .finished ≡ false
   pub left : ℕ
   pub end : ℕ
@@ -69,7 +69,7 @@ pub record InFrame (file : List ℕ) (s : Stream) (p : Progress) (k : ℕ) (rest
   pub ahead : Ahead file s (suc k) (p .«frame_index») more end
 
 pub record BetweenFrames (file : List ℕ) (s : Stream) (p : Progress) (k : ℕ) (rest : List WriteRecord) : Type 0 where
-  pub part : p .part ≡ Between
+  pub part : partOf (p .part) ≡ Between
   pub going : p .finished ≡ false
   pub initialized : p .initialized ≡ true
   pub more : ℕ
@@ -79,7 +79,7 @@ pub record BetweenFrames (file : List ℕ) (s : Stream) (p : Progress) (k : ℕ)
   pub is : rest ≡ vsync s k
 
 pub record InClosing (file : List ℕ) (s : Stream) (p : Progress) (k : ℕ) (rest : List WriteRecord) : Type 0 where
-  pub part : p .part ≡ Closing
+  pub part : partOf (p .part) ≡ Closing
   pub going : p .finished ≡ false
   pub once : s .repeat ≡ false
   pub last : k ≡ length (s .frames)

@@ -13,7 +13,7 @@ use Rattle.format.specs.declared.player.StreamPlayer.{StreamPlayer}
 use Rattle.format.specs.declared.operation.WriteRecord.{WriteRecord}
 use Rattle.format.specs.Checked.{Checked, ok, refused, refuse, mapped, _>>=_, _>>_}
 use Rattle.format.specs.Pace.{Plan, planOf, planFrame, planOpening, planClosing, plan, planned}
-use Rattle.format.specs.State.{moved}
+use Rattle.format.specs.State.{partOf, moved}
 use Rattle.format.specs.Player.{Gathered, gathered, Played, openingBegun, frameBegun, frameEnded, closingAt, operationsLeft, playFrame, playOpening, playClosing, play, belongs, as25, call, runAfter}
 use Rattle.format.specs.Stream.{openingLimit}
 use Rattle.format.specs.Writes.{silence, closingWrites}
@@ -110,7 +110,7 @@ plan-25 (ok tt) a a′ e = ap as25 e ∙ under a′
 pub planned-is : (state : StreamPlayer) (file : List ℕ) (room : ℕ) → planned state file room ≡ mapped planOf (call state file room)
 unfolding planned call
 planned-is state file room =
-    plan-cond (state .progress .finished) _ _ refl (plan-25 (belongs state file) _ _ (plan-part state file room (state .progress) (state .progress .part)))
+    plan-cond (state .progress .finished) _ _ refl (plan-25 (belongs state file) _ _ (plan-part state file room (state .progress) (partOf (state .progress .part))))
 
 -- NO MORE RECORDS THAN THE RUN HOLDS
 
@@ -171,7 +171,7 @@ checked-25 (refused number place) a e = absurd (refused-not-ok e)
 pub records-fit : (state : StreamPlayer) (file : List ℕ) (room : ℕ) (a : Played) → call state file room ≡ ok a → length (a .records) ≤ room
 unfolding call
 records-fit state file room a e =
-    fits-cond (state .progress .finished) (ok (record { records = []; complete = true; next = state })) (as25 (belongs state file >> play state file room (state .progress) (state .progress .part))) room a (λ e. none e) (λ e. part-fits state file room (state .progress) (state .progress .part) a (passed-check (belongs state file) (checked-25 _ a e) .1)) e
+    fits-cond (state .progress .finished) (ok (record { records = []; complete = true; next = state })) (as25 (belongs state file >> play state file room (state .progress) (partOf (state .progress .part)))) room a (λ e. none e) (λ e. part-fits state file room (state .progress) (partOf (state .progress .part)) a (passed-check (belongs state file) (checked-25 _ a e) .1)) e
   where
     none : _≡_ {A = Checked Played} (ok (record { records = []; complete = true; next = state })) (ok a) → length (a .records) ≤ room
     none e =

@@ -18,7 +18,7 @@ use Rattle.format.specs.Checked.{Checked, ok, _>>=_, _>>_}
 use Rattle.format.specs.Header.{headerOf}
 use Rattle.format.specs.Listener.{wavesBefore}
 use Rattle.format.specs.Player.{wavesByAll, Played, placed, operationsLeft, openingBegun, frameStart, frameBegun, frameEnded, closingAt, playFrame, playOpening, playClosing, play, belongs, as25, call}
-use Rattle.format.specs.State.{unplayed, playerOf, startedAs, started}
+use Rattle.format.specs.State.{partOf, unplayed, playerOf, startedAs, started}
 use Rattle.format.specs.Stream.{Stream, openingLimit, read}
 use Rattle.format.specs.Writes.{openingWrites, frameWrites, closing, vsync}
 use Rattle.format.proofs.Accepted.{Accepted, HeaderOk, accepted, header-ok}
@@ -206,15 +206,15 @@ module _ (file : List ℕ) (s : Stream) (acc : Accepted file (headerOf file) s) 
   abbrev PlaysAs : Progress → ℕ → List WriteRecord → ℕ → Part → Type 0
   PlaysAs p k rest room part = Plays file s k rest room (play (playerOf file s p) file room p part)
 
-  start-plays : (room : ℕ) → PlaysAs (unplayed false (headerOf file .«frame_start»)) 0 (vsync s 0) room (unplayed false (headerOf file .«frame_start») .part)
+  start-plays : (room : ℕ) → PlaysAs (unplayed false (headerOf file .«frame_start»)) 0 (vsync s 0) room (partOf (unplayed false (headerOf file .«frame_start») .part))
   unfolding play playerOf unplayed wavesBefore
   start-plays room = first-plays (unplayed false (headerOf file .«frame_start»)) room refl
 
   -- a state that is not finished plays on
-  phase-plays : (p : Progress) (k : ℕ) (rest : List WriteRecord) (room : ℕ) → Inside file p → Phase file s p k rest → p .finished ≡ false → PlaysAs p k rest room (p .part)
+  phase-plays : (p : Progress) (k : ℕ) (rest : List WriteRecord) (room : ℕ) → Inside file p → Phase file s p k rest → p .finished ≡ false → PlaysAs p k rest room (partOf (p .part))
   unfolding play
   phase-plays p k rest room inside (at-start-of-all e none is) going =
-      subst (λ (p : Progress). PlaysAs p k rest room (p .part)) (sym e) (rw (none, is) (start-plays room))
+      subst (λ (p : Progress). PlaysAs p k rest room (partOf (p .part))) (sym e) (rw (none, is) (start-plays room))
   phase-plays p k rest room inside (at-opening phase) going =
       subst (PlaysAs p k rest room) (sym (phase .part)) (opening-plays p p k rest room phase inside)
   phase-plays p k rest room inside (at-frame phase) going =
@@ -238,12 +238,12 @@ module _ (file : List ℕ) (s : Stream) (acc : Accepted file (headerOf file) s) 
   call-finished : (p : Progress) (room : ℕ) → p .finished ≡ true → call (playerOf file s p) file room ≡ ok (record { records = []; complete = true; next = playerOf file s p })
   unfolding call playerOf
   call-finished p room h =
-      ap (λ (b : Bool). cond b (ok (record { records = []; complete = true; next = playerOf file s p })) (as25 (belongs (playerOf file s p) file >> play (playerOf file s p) file room p (p .part)))) h
+      ap (λ (b : Bool). cond b (ok (record { records = []; complete = true; next = playerOf file s p })) (as25 (belongs (playerOf file s p) file >> play (playerOf file s p) file room p (partOf (p .part))))) h
 
-  call-going : (p : Progress) (room : ℕ) → p .finished ≡ false → call (playerOf file s p) file room ≡ as25 (belongs (playerOf file s p) file >> play (playerOf file s p) file room p (p .part))
+  call-going : (p : Progress) (room : ℕ) → p .finished ≡ false → call (playerOf file s p) file room ≡ as25 (belongs (playerOf file s p) file >> play (playerOf file s p) file room p (partOf (p .part)))
   unfolding call playerOf
   call-going p room h =
-      ap (λ (b : Bool). cond b (ok (record { records = []; complete = true; next = playerOf file s p })) (as25 (belongs (playerOf file s p) file >> play (playerOf file s p) file room p (p .part)))) h
+      ap (λ (b : Bool). cond b (ok (record { records = []; complete = true; next = playerOf file s p })) (as25 (belongs (playerOf file s p) file >> play (playerOf file s p) file room p (partOf (p .part))))) h
 
   -- what a call gives, and the wave sources that a complete one leaves
   record Called (p : Progress) (k : ℕ) (rest : List WriteRecord) (room : ℕ) : Type 0 where
@@ -258,7 +258,7 @@ module _ (file : List ℕ) (s : Stream) (acc : Accepted file (headerOf file) s) 
       let sources : p .«wave_sources» ≡ wavesBefore file s (suc k) = over .sources ∙ sym still in
       subst (λ (r : List WriteRecord). Called p k r room) (sym (over .is)) (record { goes = record { next = playerOf file s p; is = call-finished p room (over .over) ∙ played-is _ (sym (take-nil room)) (sym (leb·zero room)); holds = rw (leb·zero room) (record { progress = p; is = refl; inside = inside; phase = at-over (record { over = over .over; once = over .once; last = omega (arith, over .last); sources = sources; is = vsync-over s (over .once) k (omega (arith, over .last)) }) }) }; next = p; is = refl; sources = λ e. sources })
 
-  going-goes : (p : Progress) (k : ℕ) (rest : List WriteRecord) (room : ℕ) → HeaderOk (headerOf file) → Inside file p → p .finished ≡ false → PlaysAs p k rest room (p .part) → Called p k rest room
+  going-goes : (p : Progress) (k : ℕ) (rest : List WriteRecord) (room : ℕ) → HeaderOk (headerOf file) → Inside file p → p .finished ≡ false → PlaysAs p k rest room (partOf (p .part)) → Called p k rest room
   going-goes p k rest room header inside going plays =
       record { goes = record { next = playerOf file s (plays .next); is = call-going p room going ∙ rw (belongs-own file s acc header p inside, plays .is); holds = record { progress = plays .next; is = refl; inside = plays .inside; phase = plays .phase } }; next = plays .next; is = refl; sources = plays .sources }
 

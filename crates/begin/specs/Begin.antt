@@ -4,6 +4,7 @@ use mathlib.Core.Bool.{Bool, true, false, cond, not}
 use mathlib.Core.List.{List}
 use lib.Dec.{eqb, ltb}
 use lib.ListN.{length}
+use Rattle.format.specs.State.{partOf}
 use Rattle.format.specs.declared.header.Header.{Header}
 use Rattle.format.specs.declared.player.Part.{Part}
 use Rattle.format.specs.declared.player.Part.the-variants.{Between, Opening, Frame, Closing}
@@ -60,4 +61,4 @@ partPlace file state total Closing = closingFrom state (state .progress .«write
 
 -- of a call that takes so many records and has a run of `total`
 unfoldable pub firstPlace : List ℕ → StreamPlayer → (count total : ℕ) → Place
-firstPlace file state count total = cond (eqb count 0) (nowhere total) (partPlace file state total (state .progress .part))
+firstPlace file state count total = cond (eqb count 0) (nowhere total) (partPlace file state total (partOf (state .progress .part)))

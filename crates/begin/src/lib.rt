@@ -5,9 +5,11 @@ use format::Part;
 use format::StreamPlayer;
 use pace::operations_left;
 use segments::Place;
+use state::part_of;
 use writes::passes;
 ghost use mathlib.Core.Path.{_≡_};
 ghost use Prim.Native.Nat.{_-_, _<_};
+ghost use Rattle.format.specs.State.{partOf};
 ghost use Rattle.begin.specs.Begin.{nowhere, closingCount, closingFrom, framePlace, frameAt, openingPlace, betweenPlace, partPlace, firstPlace};
 
 // No record is taken.
@@ -144,14 +146,13 @@ fn between_place(file: &[u8], state: StreamPlayer, total: usize) -> Place
 
 // The part that is under way goes on.
 fn part_place(file: &[u8], state: StreamPlayer, total: usize) -> Place
-    ensures { λ r. ⌜ r ≡ partPlace (now (file .entry)) state total (state .progress .part) ⌝ }
+    ensures { λ r. ⌜ r ≡ partPlace (now (file .entry)) state total (partOf (state .progress .part)) ⌝ }
 {
     let header = state.header;
     let progress = state.progress;
-    let part = progress.part;
     let left = operations_left(progress);
     let done = progress.write_index;
-    match part {
+    match part_of(progress.part) {
         Part::Between => between_place(file, state, total),
         Part::Opening => opening_place(file, header, left, progress.cursor, done, total),
         Part::Frame => frame_place(left as usize, progress.cursor, done, total),

@@ -1,10 +1,10 @@
 // Whether a state belongs to a file: its recorded size, version and card count, its places and its counters (25).
-use format::StreamPlayer;
+use format::Header;
+use format::Progress;
 ghost use mathlib.Core.Path.{_≡_};
 ghost use mathlib.Core.Bool.{_||_};
 ghost use lib.Dec.{eqb, ltb};
-ghost use Rattle.format.specs.Checked.{refuse};
-ghost use Rattle.format.specs.Player.{belongs};
+ghost use Rattle.belongs.specs.Foreign.{foreignTo};
 
 // Whether the version or the card count is none of a file's.
 fn recorded_wrong(version: u8, cards: usize) -> bool
@@ -45,30 +45,29 @@ fn counter_past(frames: u32, frame: u32, operations: u32, operation: u32) -> boo
     operations < operation
 }
 
-// Whether a state belongs to another file than the lent one.
-pub fn foreign(file: &[u8], state: StreamPlayer) -> bool
-    ensures { λ r. ⌜ refuse 25 0 r ≡ belongs state (now (file .entry)) ⌝ }
+// Whether a state with so many cards belongs to another file than one of a length.
+pub fn foreign(length: usize, header: Header, cards: usize, progress: Progress) -> bool
+    ensures { λ r. ⌜ r ≡ foreignTo length header cards progress ⌝ }
 {
-    let length = file.len();
-    if length != state.header.total_size as usize {
+    if length != header.total_size as usize {
         return true;
     }
-    if recorded_wrong(state.header.version, state.cards.count) {
+    if recorded_wrong(header.version, cards) {
         return true;
     }
     if place_past(
         length,
-        state.progress.cursor,
-        state.header.initial_start,
-        state.header.frame_start,
-        state.header.directory_offset,
+        progress.cursor,
+        header.initial_start,
+        header.frame_start,
+        header.directory_offset,
     ) {
         return true;
     }
     counter_past(
-        state.header.frame_count,
-        state.progress.frame_index,
-        state.progress.operation_count,
-        state.progress.operation_index,
+        header.frame_count,
+        progress.frame_index,
+        progress.operation_count,
+        progress.operation_index,
     )
 }

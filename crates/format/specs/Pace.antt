@@ -14,7 +14,7 @@ use Rattle.format.specs.declared.player.StreamPlayer.{StreamPlayer}
 use Rattle.format.specs.declared.operation.WriteRecord.{WriteRecord}
 use Rattle.format.specs.Bytes.{byte}
 use Rattle.format.specs.Checked.{Checked, ok, refuse, _>>=_, _>>_}
-use Rattle.format.specs.State.{moved}
+use Rattle.format.specs.State.{partOf, moved}
 use Rattle.format.specs.Player.{itemUsed, wavesBy, placed, Played, openingBegun, frameBegun, frameEnded, closingAt, operationsLeft, belongs, as25}
 use Rattle.format.specs.Pool.{poolAt}
 use Rattle.format.specs.Stream.{openingLimit}
@@ -90,4 +90,4 @@ plan state file room p Between =
 unfoldable pub planned : StreamPlayer → (file : List ℕ) → (room : ℕ) → Checked Plan
 planned state file room =
     cond (state .progress .finished) (ok (record { count = 0; complete = true; next = state }))
-    (as25 (belongs state file >> plan state file room (state .progress) (state .progress .part)))
+    (as25 (belongs state file >> plan state file room (state .progress) (partOf (state .progress .part))))

@@ -23,7 +23,7 @@ use Rattle.format.specs.Stream.{openingLimit}
 use Rattle.format.specs.Target.{slotOf}
 use Rattle.format.specs.Writes.{writesWith, targetNumber, closingWrites}
 use Rattle.format.specs.Lent.{lentAfter}
-use Rattle.format.specs.State.{moved}
+use Rattle.format.specs.State.{partNumber, partOf, moved}
 
 -- WHAT A CALL READS
 
@@ -114,11 +114,11 @@ pub record Played : Type 0 where
 
 abbrev pub openingBegun : Header → Progress → Progress
 openingBegun header p =
-    record { part = Opening; cursor = header .«initial_start»; «operation_index» = 0; «operation_count» = header .«initial_count»; «write_index» = 0; «frame_index» = 0; initialized = false; finished = false; «wave_sources» = p .«wave_sources» }
+    record { part = partNumber Opening; cursor = header .«initial_start»; «operation_index» = 0; «operation_count» = header .«initial_count»; «write_index» = 0; «frame_index» = 0; initialized = false; finished = false; «wave_sources» = p .«wave_sources» }
 
 abbrev pub frameStart : List ℕ → (cursor frame : ℕ) → Progress → Progress
 frameStart file cursor frame p =
-    record { part = Frame; cursor = cursor + 2; «operation_index» = 0; «operation_count» = be 2 file cursor; «write_index» = 0; «frame_index» = frame + 1; initialized = true; finished = false; «wave_sources» = p .«wave_sources» }
+    record { part = partNumber Frame; cursor = cursor + 2; «operation_index» = 0; «operation_count» = be 2 file cursor; «write_index» = 0; «frame_index» = frame + 1; initialized = true; finished = false; «wave_sources» = p .«wave_sources» }
 
 -- a frame, counted from 0: its count is read at the cursor
 unfoldable pub frameBegun : List ℕ → (cursor frame : ℕ) → Progress → Checked Progress
@@ -128,11 +128,11 @@ frameBegun file cursor frame p = do
 
 abbrev pub frameEnded : Progress → Progress
 frameEnded p =
-    record { part = Between; cursor = p .cursor; «operation_index» = 0; «operation_count» = 0; «write_index» = 0; «frame_index» = p .«frame_index»; initialized = true; finished = false; «wave_sources» = p .«wave_sources» }
+    record { part = partNumber Between; cursor = p .cursor; «operation_index» = 0; «operation_count» = 0; «write_index» = 0; «frame_index» = p .«frame_index»; initialized = true; finished = false; «wave_sources» = p .«wave_sources» }
 
 abbrev pub closingAt : (writes : ℕ) → (finished : Bool) → Progress → Progress
 closingAt writes finished p =
-    record { part = Closing; cursor = p .cursor; «operation_index» = 0; «operation_count» = 0; «write_index» = writes; «frame_index» = p .«frame_index»; initialized = true; finished = finished; «wave_sources» = p .«wave_sources» }
+    record { part = partNumber Closing; cursor = p .cursor; «operation_index» = 0; «operation_count» = 0; «write_index» = writes; «frame_index» = p .«frame_index»; initialized = true; finished = finished; «wave_sources» = p .«wave_sources» }
 
 abbrev pub operationsLeft : Progress → ℕ
 operationsLeft p = p .«operation_count» - p .«operation_index»
@@ -194,7 +194,7 @@ as25 (refused number place) = refused 25 0
 unfoldable pub call : StreamPlayer → (file : List ℕ) → (room : ℕ) → Checked Played
 call state file room =
     cond (state .progress .finished) (ok (record { records = []; complete = true; next = state }))
-    (as25 (belongs state file >> play state file room (state .progress) (state .progress .part)))
+    (as25 (belongs state file >> play state file room (state .progress) (partOf (state .progress .part))))
 
 -- the lent run after a call: the records are in front, and the call "touches no later record"
 abbrev pub runAfter : List WriteRecord → Checked Played → List WriteRecord

@@ -3,7 +3,7 @@ use Prim.Native.Nat.{ℕ, _+_, _*_, _-_}
 use mathlib.Core.Bool.{Bool, true, false, cond, _&&_}
 use mathlib.Core.List.{List, [], _++_}
 use lib.ListN.{length, getD, replicate}
-use lib.Dec.{ltb}
+use lib.Dec.{eqb, ltb}
 use Rattle.format.specs.declared.card.CardRequirement.{CardRequirement}
 use Rattle.format.specs.declared.card.CardTable.{CardTable}
 use Rattle.format.specs.declared.player.Part.{Part}
@@ -25,12 +25,16 @@ noCard = record { slot = 0; «id_length» = 0; «id_offset» = 0; «bulk_start»
 unfoldable pub tableOf : List CardRequirement → CardTable
 tableOf cards = record { cards = cards ++ replicate (8 - length cards) noCard; count = length cards }
 
--- what is playing, as a number
+-- what is playing, as the number that a state holds
 abbrev pub partNumber : Part → ℕ
 partNumber Between = 0
 partNumber Opening = 1
 partNumber Frame = 2
 partNumber Closing = 3
+
+-- and back: every number stands for a part
+abbrev pub partOf : ℕ → Part
+partOf n = cond (eqb n 0) Between (cond (eqb n 1) Opening (cond (eqb n 2) Frame Closing))
 
 -- no pool was copied yet
 abbrev pub noWave : WaveSource
@@ -39,7 +43,7 @@ noWave = record { copied = false; pool = 0 }
 -- before the first vsync
 unfoldable pub unplayed : (finished : Bool) → (cursor : ℕ) → Progress
 unplayed finished cursor =
-    record { part = Between; cursor = cursor; «operation_index» = 0; «operation_count» = 0; «write_index» = 0; «frame_index» = 0; initialized = false; finished = finished; «wave_sources» = replicate 16 noWave }
+    record { part = partNumber Between; cursor = cursor; «operation_index» = 0; «operation_count» = 0; «write_index» = 0; «frame_index» = 0; initialized = false; finished = finished; «wave_sources» = replicate 16 noWave }
 
 -- the state of a player of an accepted file
 unfoldable pub playerOf : List ℕ → Stream → Progress → StreamPlayer

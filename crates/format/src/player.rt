@@ -2,12 +2,23 @@
 use crate::CardTable;
 use crate::Header;
 
-// What a player is playing: nothing yet of the next vsync, the opening, a frame, or the closing writes.
+// What a player is playing: nothing yet of the next vsync, the opening, a frame, or the closing writes. A state holds its
+// number, because an exported type holds no enum; every number past 2 stands for the closing writes.
 pub enum Part {
     Between,
     Opening,
     Frame,
     Closing,
+}
+
+impl Part {
+    pub const BETWEEN: u8 = 0;
+
+    pub const OPENING: u8 = 1;
+
+    pub const FRAME: u8 = 2;
+
+    pub const CLOSING: u8 = 3;
 }
 
 // The pool that was last copied to a place of 256 bytes of a core, if any was.
@@ -20,8 +31,9 @@ pub struct WaveSource {
 // How far a player is. `operation_index` counts the operations of the part that are done, of `operation_count`; `write_index`
 // the writes that are done of the operation at `cursor`, or of the closing writes; `frame_index` the frames of this pass that are
 // begun.
+#[repr(C)]
 pub struct Progress {
-    pub part: Part,
+    pub part: u8,
     pub cursor: usize,
     pub operation_index: u32,
     pub operation_count: u32,
@@ -33,6 +45,7 @@ pub struct Progress {
 }
 
 // A player's state: what its start recorded, which no call changes, and its progress.
+#[repr(C)]
 pub struct StreamPlayer {
     pub header: Header,
     pub cards: CardTable,

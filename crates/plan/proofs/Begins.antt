@@ -5,6 +5,7 @@ use mathlib.Core.Bool.{Bool, true, false, cond, not, true≢false, false≢true}
 use mathlib.Core.List.{List}
 use mathlib.Core.Path.{_≡_, refl, sym, ap, _∙_}
 use borrow.Author.Tests.{lt-ltb, le-ltb}
+use Rattle.format.specs.State.{partOf}
 use Rattle.format.specs.declared.player.Part.{Part}
 use Rattle.format.specs.declared.player.Part.the-variants.{Between, Opening, Frame, Closing}
 use Rattle.format.specs.declared.player.Progress.{Progress}
@@ -26,16 +27,16 @@ second true x y e = absurd (true≢false e)
 second false x y e = refl
 
 module _ (state : StreamPlayer) (file : List ℕ) (room : ℕ) where
-  planned-on : state .progress .finished ≡ false → planTold state (planned state file room) ≡ planTold state (belongs state file >> plan state file room (state .progress) (state .progress .part))
+  planned-on : state .progress .finished ≡ false → planTold state (planned state file room) ≡ planTold state (belongs state file >> plan state file room (state .progress) (partOf (state .progress .part)))
   unfolding planned
-  planned-on e = ap (planTold state) (second (state .progress .finished) _ _ e) ∙ told-25 state (belongs state file >> plan state file room (state .progress) (state .progress .part))
+  planned-on e = ap (planTold state) (second (state .progress .finished) _ _ e) ∙ told-25 state (belongs state file >> plan state file room (state .progress) (partOf (state .progress .part)))
 
   -- a state of another file
   pub planned-foreign : (other : Bool) (r : CallPlan) → state .progress .finished ≡ false → refuse 25 0 other ≡ belongs state file → other ≡ true → r ≡ noPlan state → r ≡ planTold state (planned state file room)
   planned-foreign other r e here is h = rw (planned-on e, ← here, is) h
 
   -- a state of the file
-  pub planned-own : (other : Bool) (t : Taken) (r : CallPlan) → state .progress .finished ≡ false → refuse 25 0 other ≡ belongs state file → other ≡ false → r ≡ takenTold state t → takenTold state t ≡ planTold state (plan state file room (state .progress) (state .progress .part)) → r ≡ planTold state (planned state file room)
+  pub planned-own : (other : Bool) (t : Taken) (r : CallPlan) → state .progress .finished ≡ false → refuse 25 0 other ≡ belongs state file → other ≡ false → r ≡ takenTold state t → takenTold state t ≡ planTold state (plan state file room (state .progress) (partOf (state .progress .part))) → r ≡ planTold state (planned state file room)
   planned-own other t r e here is h taken = rw (planned-on e, ← here, is) (h ∙ taken)
 
 module _ (state : StreamPlayer) (file : List ℕ) (room : ℕ) (p : Progress) (r : CallPlan) where

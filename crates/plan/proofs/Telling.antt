@@ -28,14 +28,14 @@ told-bind state (refused number place) rest = refl
 -- an answer with so many writes in front
 abbrev later : (count : ℕ) → CallPlan → CallPlan
 later count answer =
-    cond (answer .refused) answer (record { refused = false; count = count + answer .count; complete = answer .complete; next = answer .next })
+    cond (eqb (answer .number) 0) (record { number = 0; count = count + answer .count; complete = answer .complete; next = answer .next }) answer
 
 later-told : (state : StreamPlayer) (count : ℕ) (t : Taken) (b : Bool) → t .refused ≡ b → takenTold state (behind count t) ≡ later count (takenTold state t)
 later-told state count t true e = rw e
 later-told state count t false e = rw e
 
 -- a frame, with no operation left or some
-frame-done : (state : StreamPlayer) (count : ℕ) (p : Progress) (no done : Bool) → takenTold state (cond done (record { refused = no; count = count; complete = true; progress = frameEnded p }) (record { refused = no; count = count; complete = false; progress = p })) ≡ cond no (noPlan state) (record { refused = false; count = count; complete = done; next = moved state (cond done (frameEnded p) p) })
+frame-done : (state : StreamPlayer) (count : ℕ) (p : Progress) (no done : Bool) → takenTold state (cond done (record { refused = no; count = count; complete = true; progress = frameEnded p }) (record { refused = no; count = count; complete = false; progress = p })) ≡ cond no (noPlan state) (record { number = 0; count = count; complete = done; next = moved state (cond done (frameEnded p) p) })
 frame-done state count p true true = refl
 frame-done state count p true false = refl
 frame-done state count p false true = refl
@@ -47,7 +47,7 @@ told-frame state file room p r e =
     rw (told-bind state (paced state file (length file) (operationsLeft p) room p), ← e)
     (frame-done state (room - r .room) (r .progress) (r .refused) (eqb (operationsLeft (r .progress)) 0) ∙ go (r .refused))
   where
-    go : (no : Bool) → cond no (noPlan state) (record { refused = false; count = room - r .room; complete = eqb (operationsLeft (r .progress)) 0; next = moved state (cond (eqb (operationsLeft (r .progress)) 0) (frameEnded (r .progress)) (r .progress)) }) ≡ planTold state (cond no (refused 25 0) (ok (r .room, r .progress)) >>= λ (found : ℕ × Progress). ok (record { count = room - found .0; complete = eqb (operationsLeft (found .1)) 0; next = moved state (cond (eqb (operationsLeft (found .1)) 0) (frameEnded (found .1)) (found .1)) }))
+    go : (no : Bool) → cond no (noPlan state) (record { number = 0; count = room - r .room; complete = eqb (operationsLeft (r .progress)) 0; next = moved state (cond (eqb (operationsLeft (r .progress)) 0) (frameEnded (r .progress)) (r .progress)) }) ≡ planTold state (cond no (refused 25 0) (ok (r .room, r .progress)) >>= λ (found : ℕ × Progress). ok (record { count = room - found .0; complete = eqb (operationsLeft (found .1)) 0; next = moved state (cond (eqb (operationsLeft (found .1)) 0) (frameEnded (found .1)) (found .1)) }))
     go true = refl
     go false = refl
 

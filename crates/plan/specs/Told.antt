@@ -3,7 +3,6 @@ use Prim.Native.Nat.{ℕ, _+_, _-_, min}
 use mathlib.Core.Bool.{Bool, true, false, cond}
 use mathlib.Core.List.{List}
 use lib.Dec.{eqb, leb, ltb}
-use Rattle.format.specs.declared.player.Part.{Part}
 use Rattle.format.specs.declared.player.Part.the-variants.{Between}
 use Rattle.format.specs.declared.player.Progress.{Progress}
 use Rattle.format.specs.declared.player.StreamPlayer.{StreamPlayer}
@@ -19,11 +18,11 @@ use Rattle.plan.specs.declared.taken.Taken.{Taken}
 
 -- refusal 25: no write is taken, and the state stays
 abbrev pub noPlan : StreamPlayer → CallPlan
-noPlan state = record { refused = true; count = 0; complete = false; next = state }
+noPlan state = record { number = 25; count = 0; complete = false; next = state }
 
 -- the answer to a plan of a state's call
 abbrev pub planTold : StreamPlayer → Checked Plan → CallPlan
-planTold state (ok plan) = record { refused = false; count = plan .count; complete = plan .complete; next = plan .next }
+planTold state (ok plan) = record { number = 0; count = plan .count; complete = plan .complete; next = plan .next }
 planTold state (refused number place) = noPlan state
 
 -- WHAT IS TAKEN OF A PART
@@ -34,7 +33,7 @@ nothing p = record { refused = true; count = 0; complete = false; progress = p }
 -- the answer of a state to what was taken
 abbrev pub takenTold : StreamPlayer → Taken → CallPlan
 takenTold state t =
-    cond (t .refused) (noPlan state) (record { refused = false; count = t .count; complete = t .complete; next = moved state (t .progress) })
+    cond (t .refused) (noPlan state) (record { number = 0; count = t .count; complete = t .complete; next = moved state (t .progress) })
 
 -- of so much room: all that is not left of it
 abbrev pub takenBy : (room : ℕ) → Paced → Taken
@@ -55,7 +54,7 @@ closingTaken si22 room p =
     cond (ltb (cond si22 33 32) (p .«write_index»)) (nothing p) (record { refused = false; count = min room (cond si22 33 32 - p .«write_index»); complete = leb (cond si22 33 32 - p .«write_index») room; progress = closingAt (p .«write_index» + min room (cond si22 33 32 - p .«write_index»)) (leb (cond si22 33 32 - p .«write_index») room) p })
 
 -- no operation of a part is done
-abbrev pub begun : Part → (cursor operations frame : ℕ) → (initialized : Bool) → Progress → Progress
+abbrev pub begun : (part cursor operations frame : ℕ) → (initialized : Bool) → Progress → Progress
 begun part cursor operations frame initialized p =
     record { part = part; cursor = cursor; «operation_index» = 0; «operation_count» = operations; «write_index» = 0; «frame_index» = frame; initialized = initialized; finished = false; «wave_sources» = p .«wave_sources» }
 

@@ -11,13 +11,16 @@ use format::Progress;
 use format::StreamPlayer;
 use state::closing_at;
 use state::moved;
+use state::part_of;
 ghost use mathlib.Core.Path.{_≡_};
 ghost use Rattle.format.specs.Pace.{plan, planned};
+ghost use Rattle.format.specs.State.{partOf};
 ghost use Rattle.plan.specs.Told.{noPlan, planTold, takenTold, planBetween};
 
-// A call's plan. A refused call takes no write, and its state stays.
+// A call's plan: refusal 25 or 0, how many writes it takes, whether the vsync is then complete, and the next state. A refused call
+// takes no write, and its state stays.
 pub struct CallPlan {
-    pub refused: bool,
+    pub number: u32,
     pub count: usize,
     pub complete: bool,
     pub next: StreamPlayer,
@@ -30,7 +33,7 @@ fn plan_between(file: &[u8], state: StreamPlayer, room: usize, progress: Progres
     if !progress.initialized {
         let opening = state.header.initial_start as usize;
         let start = begun(
-            Part::Opening,
+            Part::OPENING,
             opening,
             state.header.initial_count,
             0,
@@ -51,10 +54,9 @@ fn plan_between(file: &[u8], state: StreamPlayer, room: usize, progress: Progres
 
 // The part that is under way goes on.
 fn plan_part(file: &[u8], state: StreamPlayer, room: usize, progress: Progress) -> Taken
-    ensures { λ r. ⌜ takenTold state r ≡ planTold state (plan state (now (file .entry)) room progress (progress .part)) ⌝ }
+    ensures { λ r. ⌜ takenTold state r ≡ planTold state (plan state (now (file .entry)) room progress (partOf (progress .part))) ⌝ }
 {
-    let part = progress.part;
-    match part {
+    match part_of(progress.part) {
         Part::Between => plan_between(file, state, room, progress),
         Part::Opening => plan_opening(file, state, room, progress),
         Part::Frame => plan_frame(file, state, room, progress),
@@ -67,7 +69,7 @@ fn refused_plan(state: StreamPlayer) -> CallPlan
     ensures { λ r. ⌜ r ≡ noPlan state ⌝ }
 {
     CallPlan {
-        refused: true,
+        number: 25,
         count: 0,
         complete: false,
         next: state,
@@ -84,7 +86,7 @@ fn told(state: StreamPlayer, taken: Taken) -> CallPlan
     let progress = taken.progress;
     let next = moved(state, progress);
     CallPlan {
-        refused: false,
+        number: 0,
         count: taken.count,
         complete: taken.complete,
         next: next,
@@ -98,13 +100,14 @@ pub fn plan_call(state: StreamPlayer, file: &[u8], room: usize) -> CallPlan
     let progress = state.progress;
     if progress.finished {
         return CallPlan {
-            refused: false,
+            number: 0,
             count: 0,
             complete: true,
             next: state,
         };
     }
-    if foreign(file, state) {
+    let header = state.header;
+    if foreign(file.len(), header, state.cards.count, progress) {
         return refused_plan(state);
     }
     told(state, plan_part(file, state, room, progress))

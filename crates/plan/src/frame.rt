@@ -23,7 +23,7 @@ fn ended(taken: Taken) -> Taken
         return taken;
     }
     let over = begun(
-        Part::Between,
+        Part::BETWEEN,
         progress.cursor,
         0,
         progress.frame_index,
@@ -64,6 +64,6 @@ pub fn begin_frame(
         return refused_part(progress);
     }
     let count = read_u16(file, cursor) as u32;
-    let start = begun(Part::Frame, cursor + 2, count, frame + 1, true, progress);
+    let start = begun(Part::FRAME, cursor + 2, count, frame + 1, true, progress);
     plan_frame(file, state, room, start)
 }

@@ -1,12 +1,11 @@
 // Where a player is when an opening or a frame begins, and when a frame ends.
-use format::Part;
 use format::Progress;
 ghost use mathlib.Core.Path.{_≡_};
 ghost use Rattle.plan.specs.Told.{begun};
 
 // No operation of a part is done.
 pub fn begun(
-    part: Part,
+    part: u8,
     cursor: usize,
     operations: u32,
     frame: u32,

@@ -55,7 +55,7 @@ fn compare(file: &[u8], state: StreamPlayer, stored: &[u8]) -> Replayed {
     let next = planned.next;
     let progress = next.progress;
     let told = Told {
-        flags: flags_of(planned.refused, planned.complete, progress.finished),
+        flags: flags_of(planned.number != 0, planned.complete, progress.finished),
         count: planned.count,
         frame: progress.frame_index,
         records: records,

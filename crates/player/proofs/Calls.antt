@@ -4,28 +4,36 @@ use mathlib.Core.Bool.{Bool, true, false, cond}
 use mathlib.Core.List.{List, []}
 use mathlib.Core.Path.{_≡_, refl, sym, ap, _∙_}
 use lib.ListN.{length}
+use Rattle.format.specs.State.{partOf}
 use Rattle.format.specs.declared.operation.WriteRecord.{WriteRecord}
 use Rattle.format.specs.declared.player.StreamPlayer.{StreamPlayer}
 use Rattle.format.specs.Checked.{Checked, ok, refused, mapped, _>>_}
 use Rattle.format.specs.Pace.{planOf, planned}
 use Rattle.format.specs.Player.{Played, play, belongs, as25, call, runAfter}
+use Rattle.format.specs.State.{moved}
 use Rattle.format.proofs.Checks.{refused-not-ok}
 use Rattle.agreement.proofs.Planned.{planned-is}
 use Rattle.plan.specs.declared.call.CallPlan.{CallPlan}
 use Rattle.plan.specs.Told.{planTold}
 use Rattle.store.specs.Stored.{storedCall}
 use Rattle.store.proofs.Call.{stored-nothing, call-stored}
+use Rattle.quick_step.specs.declared.Step.{Step}
+use Rattle.quick_step.specs.Step.{stepOf, stepped}
+use Rattle.quick_step.proofs.Stepped.{step-call}
+use Rattle.quick_step.proofs.Plainly.{step-plainly}
+use Rattle.store_writes.specs.Stored.{writesStored}
+use Rattle.store_writes.proofs.Writes.{writes-long, storable-all}
 use Rattle.player.specs.declared.vsync.Vsync.{Vsync}
 use Rattle.player.specs.Vsync.{vsyncOf, stateAfter}
 
 -- what a plan tells
 abbrev pub toldOf : CallPlan → Vsync
-toldOf plan = record { refused = plan .refused; count = plan .count; complete = plan .complete }
+toldOf plan = record { number = plan .number; count = plan .count; complete = plan .complete }
 
 -- whatever a call refuses is 25, at place 0
 pub refused-25 : (state : StreamPlayer) (file : List ℕ) (room number place : ℕ) → call state file room ≡ refused number place → (number ≡ 25) × (place ≡ 0)
 unfolding call
-refused-25 state file room number place e = either (state .progress .finished) (belongs state file >> play state file room (state .progress) (state .progress .part)) e
+refused-25 state file room number place e = either (state .progress .finished) (belongs state file >> play state file room (state .progress) (partOf (state .progress .part))) e
   where
     as-25 : (x : Checked Played) → as25 x ≡ refused number place → (number ≡ 25) × (place ≡ 0)
     as-25 (ok a) e = absurd (refused-not-ok (sym e))
@@ -47,11 +55,11 @@ module _ (state : StreamPlayer) (file : List ℕ) (run : List WriteRecord) where
   plan-is = ap (planTold state) (planned-is state file (length run))
 
   pub told-is : toldOf plan ≡ vsyncOf answer
-  told-is = ap toldOf plan-is ∙ go answer
+  told-is = ap toldOf plan-is ∙ go answer refl
     where
-      go : (a : Checked Played) → toldOf (planTold state (mapped planOf a)) ≡ vsyncOf a
-      go (ok a) = refl
-      go (refused number place) = refl
+      go : (a : Checked Played) → call state file (length run) ≡ a → toldOf (planTold state (mapped planOf a)) ≡ vsyncOf a
+      go (ok a) e = refl
+      go (refused number place) e = rw (refused-25 state file (length run) number place e .0)
 
   pub state-is : plan .next ≡ stateAfter state answer
   state-is = ap (λ (p : CallPlan). p .next) plan-is ∙ go answer
@@ -66,3 +74,22 @@ module _ (state : StreamPlayer) (file : List ℕ) (run : List WriteRecord) where
       go : (a : Checked Played) → call state file (length run) ≡ a → storedCall file state (planTold state (mapped planOf a) .count) run ≡ runAfter run (call state file (length run))
       go (ok a) e = call-stored file state run a e
       go (refused number place) e = stored-nothing file state run ∙ ap (runAfter run) (sym e)
+
+-- A STEP THAT IS TAKEN
+
+-- what it tells, and the state behind it
+abbrev pub stepTold : Step → Vsync
+stepTold step = record { number = 0; count = step .count; complete = step .complete }
+
+abbrev pub steppedOn : StreamPlayer → Step → StreamPlayer
+steppedOn state step = moved state (stepped (state .progress) step)
+
+pub step-told : (state : StreamPlayer) (file : List ℕ) (run : List WriteRecord) (step : Step) (zs : List WriteRecord) → step ≡ stepOf file (state .header) (state .cards .count) (state .progress) (length run) → step .taken ≡ true → zs ≡ writesStored file (state .header .version) (step .from) (step .count) run → (stepTold step ≡ vsyncOf (call state file (length run))) × (steppedOn state step ≡ stateAfter state (call state file (length run))) × (zs ≡ runAfter run (call state file (length run)))
+unfolding writesStored
+step-told state file run step zs e taken wrote =
+    let version = state .header .version in
+    let is = step-call state file (length run) step e taken in
+    let plainly = step-plainly file (length run) (state .header) (state .cards .count) (state .progress) step e taken in
+    let long = writes-long version file (step .count) (step .from) in
+    let all = storable-all version file (length run) (plainly .end) (step .from) (step .count) (plainly .inside) (plainly .fit) (plainly .some) in
+    (rw (is, long), rw is, rw is (wrote ∙ rw all))

@@ -32,7 +32,7 @@ fn unplayed(cursor: usize) -> Progress
     };
     let waves = [wave; 16];
     Progress {
-        part: Part::Between,
+        part: Part::BETWEEN,
         cursor: cursor,
         operation_index: 0,
         operation_count: 0,

@@ -1,22 +1,25 @@
-// One vsync call over the lent state, file and run. The plan is made by value, so that a refused call changes nothing.
+// One vsync call over the lent state, file and run. What the call does is decided by value, so that a refused call changes nothing.
 use format::StreamPlayer;
 use format::WriteRecord;
 use plan::plan_call;
+use quick_step::quick_step;
 use store::store_call;
+use store_writes::store_writes;
 ghost use mathlib.Core.Path.{_≡_};
 ghost use lib.ListN.{length};
 ghost use Rattle.format.specs.Player.{call, runAfter};
 ghost use Rattle.player.specs.Vsync.{vsyncOf, stateAfter};
 
-// What a call tells: refused, which is the sheet's 25; or how many records it stored, and whether the vsync is complete.
+// What a call tells: refusal 25 or 0, how many records it stored, and whether the vsync is complete.
+#[repr(C)]
 pub struct Vsync {
-    pub refused: bool,
+    pub number: u32,
     pub count: usize,
     pub complete: bool,
 }
 
-// As many of the vsync's remaining writes as the run holds go to its front.
-pub fn advance_vsync(state: &mut StreamPlayer, file: &[u8], run: &mut [WriteRecord]) -> Vsync
+// The call of any state: its plan is made, and then its records are stored.
+fn planned_vsync(state: &mut StreamPlayer, file: &[u8], run: &mut [WriteRecord]) -> Vsync
     ensures { λ r. ⌜ (r ≡ vsyncOf (call (now (state .entry)) (now (file .entry)) (length (now (run .entry)))))
         × (now (state .exit) ≡ stateAfter (now (state .entry)) (call (now (state .entry)) (now (file .entry)) (length (now (run .entry)))))
         × (now (run .exit) ≡ runAfter (now (run .entry)) (call (now (state .entry)) (now (file .entry)) (length (now (run .entry))))) ⌝ }
@@ -26,8 +29,39 @@ pub fn advance_vsync(state: &mut StreamPlayer, file: &[u8], run: &mut [WriteReco
     store_call(run, file, before, plan.count);
     *state = plan.next;
     Vsync {
-        refused: plan.refused,
+        number: plan.number,
         count: plan.count,
         complete: plan.complete,
     }
+}
+
+// As many of the vsync's remaining writes as the run holds go to its front. A call that takes nothing but plain WRITEs reads and
+// changes a few numbers of the state.
+pub fn advance_vsync(state: &mut StreamPlayer, file: &[u8], run: &mut [WriteRecord]) -> Vsync
+    ensures { λ r. ⌜ (r ≡ vsyncOf (call (now (state .entry)) (now (file .entry)) (length (now (run .entry)))))
+        × (now (state .exit) ≡ stateAfter (now (state .entry)) (call (now (state .entry)) (now (file .entry)) (length (now (run .entry)))))
+        × (now (run .exit) ≡ runAfter (now (run .entry)) (call (now (state .entry)) (now (file .entry)) (length (now (run .entry))))) ⌝ }
+{
+    let seen = *state;
+    let step = quick_step(
+        file,
+        seen.header,
+        seen.cards.count,
+        seen.progress,
+        run.len(),
+    );
+    if step.taken {
+        store_writes(run, file, seen.header.version, step.from, step.count);
+        state.progress.part = step.part;
+        state.progress.cursor = step.cursor;
+        state.progress.operation_index = step.operation_index;
+        state.progress.operation_count = step.operation_count;
+        state.progress.frame_index = step.frame_index;
+        return Vsync {
+            number: 0,
+            count: step.count as usize,
+            complete: step.complete,
+        };
+    }
+    planned_vsync(state, file, run)
 }

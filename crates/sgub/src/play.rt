@@ -1,19 +1,15 @@
 // The player for C and Rust: its start, and one vsync call over a lent state, file and run.
+use format::StreamPlayer;
 use format::Verdict;
 use format::WriteRecord;
-use plain::SgubPlayer;
-use plain::SgubVsync;
-use plain::plan_on;
-use plain::player_of;
-use store::store_call;
+use player::Vsync;
 ghost use mathlib.Core.Path.{_≡_};
 ghost use lib.ListN.{length};
 ghost use Rattle.format.specs.Player.{call, runAfter};
 ghost use Rattle.format.specs.State.{started};
 ghost use Rattle.format.specs.Stream.{read};
 ghost use Rattle.player.specs.Start.{verdictOn};
-ghost use Rattle.plain.specs.State.{stateOf, playerFields};
-ghost use Rattle.plain.specs.Call.{vsyncOn, playerAfter};
+ghost use Rattle.player.specs.Vsync.{vsyncOf, stateAfter};
 ghost use Rattle.sgub.specs.Play.{startFields};
 
 // The verdict on a file, and the player's state; that of a refused file is finished.
@@ -21,16 +17,15 @@ ghost use Rattle.sgub.specs.Play.{startFields};
 pub struct SgubStarted {
     pub number: u32,
     pub place: u64,
-    pub player: SgubPlayer,
+    pub player: StreamPlayer,
 }
 
 #[no_mangle]
 pub extern "C" fn sgub_start(file: &[u8]) -> SgubStarted
-    ensures { λ r. ⌜ r ≡ startFields (verdictOn (read (now (file .entry)))) (playerFields (started (now (file .entry)))) ⌝ }
+    ensures { λ r. ⌜ r ≡ startFields (verdictOn (read (now (file .entry)))) (started (now (file .entry))) ⌝ }
 {
     let found = player::start(file);
-    let state = found.state;
-    let player = player_of(state);
+    let player = found.state;
     let verdict = found.verdict;
     match verdict {
         Verdict::Allowed => SgubStarted {
@@ -49,24 +44,16 @@ pub extern "C" fn sgub_start(file: &[u8]) -> SgubStarted
     }
 }
 
-// The call of `player::advance_vsync` over a state of plain numbers. A refused call changes nothing.
+// `advance_vsync` itself. A refused call changes nothing.
 #[no_mangle]
 pub extern "C" fn sgub_advance_vsync(
-    player: &mut SgubPlayer,
+    player: &mut StreamPlayer,
     file: &[u8],
     run: &mut [WriteRecord],
-) -> SgubVsync
-    ensures { λ r. ⌜ (r ≡ vsyncOn (call (stateOf (now (player .entry))) (now (file .entry)) (length (now (run .entry)))))
-        × (now (player .exit) ≡ playerAfter (now (player .entry)) (call (stateOf (now (player .entry))) (now (file .entry)) (length (now (run .entry)))))
-        × (now (run .exit) ≡ runAfter (now (run .entry)) (call (stateOf (now (player .entry))) (now (file .entry)) (length (now (run .entry))))) ⌝ }
+) -> Vsync
+    ensures { λ r. ⌜ (r ≡ vsyncOf (call (now (player .entry)) (now (file .entry)) (length (now (run .entry)))))
+        × (now (player .exit) ≡ stateAfter (now (player .entry)) (call (now (player .entry)) (now (file .entry)) (length (now (run .entry)))))
+        × (now (run .exit) ≡ runAfter (now (run .entry)) (call (now (player .entry)) (now (file .entry)) (length (now (run .entry))))) ⌝ }
 {
-    let before = *player;
-    let plan = plan_on(before, file, run.len());
-    store_call(run, file, plan.before, plan.count);
-    *player = plan.next;
-    SgubVsync {
-        number: plan.number,
-        count: plan.count,
-        complete: plan.complete,
-    }
+    player::advance_vsync(player, file, run)
 }

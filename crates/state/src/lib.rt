@@ -9,7 +9,7 @@ use format::WaveSource;
 ghost use mathlib.Core.List.{[]};
 ghost use mathlib.Core.Path.{_≡_};
 ghost use Rattle.format.specs.Player.{placed, closingAt};
-ghost use Rattle.format.specs.State.{noCard, tableOf, partNumber, refusedPlayer, moved, waveSource};
+ghost use Rattle.format.specs.State.{noCard, tableOf, partOf, refusedPlayer, moved, waveSource};
 
 // What stands for a card that is not there.
 pub fn no_card() -> CardRequirement
@@ -62,7 +62,7 @@ pub fn refused_player() -> StreamPlayer
     };
     let waves = [wave; 16];
     let progress = Progress {
-        part: Part::Between,
+        part: Part::BETWEEN,
         cursor: 0,
         operation_index: 0,
         operation_count: 0,
@@ -121,9 +121,8 @@ pub fn placed(
 ) -> Progress
     ensures { λ r. ⌜ r ≡ placed progress cursor operations writes waves ⌝ }
 {
-    let part = progress.part;
     Progress {
-        part: part,
+        part: progress.part,
         cursor: cursor,
         operation_index: operations,
         operation_count: progress.operation_count,
@@ -141,7 +140,7 @@ pub fn closing_at(progress: Progress, writes: u32, finished: bool) -> Progress
 {
     let waves = progress.wave_sources;
     Progress {
-        part: Part::Closing,
+        part: Part::CLOSING,
         cursor: progress.cursor,
         operation_index: 0,
         operation_count: 0,
@@ -153,15 +152,18 @@ pub fn closing_at(progress: Progress, writes: u32, finished: bool) -> Progress
     }
 }
 
-// What is playing, as a number.
-pub fn part_number(progress: Progress) -> u8
-    ensures { λ r. ⌜ r ≡ partNumber (progress .part) ⌝ }
+// What is playing, by its number.
+pub fn part_of(number: u8) -> Part
+    ensures { λ r. ⌜ r ≡ partOf number ⌝ }
 {
-    let part = progress.part;
-    match part {
-        Part::Between => 0,
-        Part::Opening => 1,
-        Part::Frame => 2,
-        Part::Closing => 3,
+    if number == Part::BETWEEN {
+        return Part::Between;
     }
+    if number == Part::OPENING {
+        return Part::Opening;
+    }
+    if number == Part::FRAME {
+        return Part::Frame;
+    }
+    Part::Closing
 }

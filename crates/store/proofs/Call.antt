@@ -8,6 +8,7 @@ use native.Mathlib.Omega.{arith}
 use borrow.Author.Tests.{ne-eqb}
 use lib.Dec.{ltb}
 use lib.ListN.{length, drop}
+use Rattle.format.specs.State.{partOf}
 use Rattle.format.specs.declared.operation.WriteRecord.{WriteRecord}
 use Rattle.format.specs.declared.player.Part.{Part}
 use Rattle.format.specs.declared.player.Part.the-variants.{Between, Opening, Frame, Closing}
@@ -69,11 +70,11 @@ checked-25 (ok b) a e = e
 checked-25 (refused number place) a e = absurd (refused-not-ok e)
 
 -- a call that takes some plays the part that is under way
-plays : (file : List ℕ) (state : StreamPlayer) (room : ℕ) (a : Played) → call state file room ≡ ok a → 0 < length (a .records) → play state file room (state .progress) (state .progress .part) ≡ ok a
+plays : (file : List ℕ) (state : StreamPlayer) (room : ℕ) (a : Played) → call state file room ≡ ok a → 0 < length (a .records) → play state file room (state .progress) (partOf (state .progress .part)) ≡ ok a
 unfolding call
 plays file state room a e some = go (state .progress .finished) e
   where
-    go : (b : Bool) → cond b (ok (record { records = []; complete = true; next = state })) (as25 (belongs state file >> play state file room (state .progress) (state .progress .part))) ≡ ok a → play state file room (state .progress) (state .progress .part) ≡ ok a
+    go : (b : Bool) → cond b (ok (record { records = []; complete = true; next = state })) (as25 (belongs state file >> play state file room (state .progress) (partOf (state .progress .part)))) ≡ ok a → play state file room (state .progress) (partOf (state .progress .part)) ≡ ok a
     go true e =
         let none : 0 ≡ length (a .records) = ap (λ (x : Played). length (x .records)) (ok-is e) in
         absurd (omega arith)
@@ -84,7 +85,7 @@ unfolding storedCall firstPlace
 taken-stored file state run a e some =
     let fits = records-fit state file (length run) a e in
     let front : length run - length run ≡ 0 = omega arith in
-    rw (ne-eqb (length (a .records)) 0 (λ (z : length (a .records) ≡ 0). omega arith)) (gives-part file state run (omega (arith, fits)) (state .progress .part) a (plays file state (length run) a e some) ∙ ap (λ (k : ℕ). inserted k (a .records) run) front ∙ ap (λ (k : ℕ). a .records ++ drop k run) (zero-add (length (a .records))))
+    rw (ne-eqb (length (a .records)) 0 (λ (z : length (a .records) ≡ 0). omega arith)) (gives-part file state run (omega (arith, fits)) (partOf (state .progress .part)) a (plays file state (length run) a e some) ∙ ap (λ (k : ℕ). inserted k (a .records) run) front ∙ ap (λ (k : ℕ). a .records ++ drop k run) (zero-add (length (a .records))))
 
 -- an answer's records are stored in front, and no later one is touched
 pub call-stored : (file : List ℕ) (state : StreamPlayer) (run : List WriteRecord) (a : Played) → call state file (length run) ≡ ok a → storedCall file state (length (a .records)) run ≡ runAfter run (call state file (length run))

@@ -86,6 +86,21 @@ pub struct WaveSource {
     pub pool: u16,
 }
 
+/// `struct sgub_progress`
+#[derive(Clone, Copy, Debug, PartialEq, Eq)]
+#[repr(C)]
+pub struct Progress {
+    pub part: u8,
+    pub cursor: usize,
+    pub operation_index: u32,
+    pub operation_count: u32,
+    pub write_index: u32,
+    pub frame_index: u32,
+    pub initialized: bool,
+    pub finished: bool,
+    pub wave_sources: [WaveSource; 16],
+}
+
 /// `struct sgub_player`
 #[derive(Clone, Copy, Debug, PartialEq, Eq)]
 #[repr(C)]
@@ -93,15 +108,7 @@ pub struct Player {
     pub header: Header,
     pub cards: CardTable,
     pub uses_si22: bool,
-    pub part: u8,
-    pub initialized: bool,
-    pub finished: bool,
-    pub operation_index: u32,
-    pub operation_count: u32,
-    pub write_index: u32,
-    pub frame_index: u32,
-    pub cursor: usize,
-    pub wave_sources: [WaveSource; 16],
+    pub progress: Progress,
 }
 
 /// `struct sgub_started`

@@ -112,7 +112,7 @@ impl StreamPlayer {
 
     /// Frames of this pass that have begun.
     pub fn frame_index(&self) -> u32 {
-        self.0.frame_index
+        self.0.progress.frame_index
     }
 
     /// Whether frame 1 follows the last frame.
@@ -122,7 +122,7 @@ impl StreamPlayer {
 
     /// Whether every closing write was given.
     pub fn is_finished(&self) -> bool {
-        self.0.finished
+        self.0.progress.finished
     }
 
     /// Frame period; 0 below version 4.
@@ -146,7 +146,7 @@ impl StreamPlayer {
         if core > 1 || channel > 7 {
             return None;
         }
-        let source = self.0.wave_sources[8 * core + channel];
+        let source = self.0.progress.wave_sources[8 * core + channel];
         source.copied.then_some(source.pool)
     }
 }

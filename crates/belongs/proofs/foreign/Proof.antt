@@ -1,7 +1,7 @@
 -- `belongs::foreign` meets its contract. Assumes nothing.
 use borrow.Author.Needs.{needs}
 use borrow.Author.Tests.{eq-eqb, ne-eqb}
-use Rattle.format.specs.Player.{belongs}
+use Rattle.belongs.specs.Foreign.{foreignTo}
 use Rattle.belongs.proofs.foreign.Statement.{statement}
 use Rattle.belongs.proofs.foreign.Tie as tie
 
@@ -9,28 +9,28 @@ cast-if1 : tie.Need-cast-if1
 cast-if1 c = search needs
 
 returns : tie.Need-returns
-unfolding belongs
+unfolding foreignTo
 returns c = simp (ne-eqb _ _ (c .if1 .taken))
 
 recorded-wrong-requires : tie.Need-recorded-wrong-requires
 recorded-wrong-requires c κs = search needs
 
 returns-2 : tie.Need-returns-2
-unfolding belongs
+unfolding foreignTo
 returns-2 c = simp (eq-eqb _ _ (c .before .before .if1 .left), ← (c .before .recorded-wrong .ensures), c .if2 .taken)
 
 place-past-requires : tie.Need-place-past-requires
 place-past-requires c κs = search needs
 
 returns-3 : tie.Need-returns-3
-unfolding belongs
+unfolding foreignTo
 returns-3 c = simp (eq-eqb _ _ (c .before .before .before .before .if1 .left), ← (c .before .before .before .recorded-wrong .ensures), c .before .before .if2 .left, ← (c .before .place-past .ensures), c .if3 .taken)
 
 counter-past-requires : tie.Need-counter-past-requires
 counter-past-requires c κs = search needs
 
 returns-4 : tie.Need-returns-4
-unfolding belongs
+unfolding foreignTo
 returns-4 c = simp (eq-eqb _ _ (c .before .before .before .before .before .if1 .left), ← (c .before .before .before .before .recorded-wrong .ensures), c .before .before .before .if2 .left, ← (c .before .before .place-past .ensures), c .before .if3 .left, ← (c .counter-past .ensures))
 
 pub foreign-spec : {M : Type 1} → statement M

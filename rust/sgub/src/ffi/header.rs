@@ -3,7 +3,7 @@
 use super::comparison::Compared;
 use super::repack::Repacked;
 use super::{
-    Card, CardTable, Header, Player, Pool, PoolEntry, Started, Verdict, Vsync, WaveSource,
+    Card, CardTable, Header, Player, Pool, PoolEntry, Progress, Started, Verdict, Vsync, WaveSource,
 };
 use crate::WriteRecord;
 use std::mem::offset_of;
@@ -36,7 +36,7 @@ fn size_of_field<S, F>(_: fn(&S) -> &F) -> usize {
     size_of::<F>()
 }
 
-fn layouts() -> [Layout; 13] {
+fn layouts() -> [Layout; 14] {
     [
         layout!(
             "sgub_verdict",
@@ -98,20 +98,26 @@ fn layouts() -> [Layout; 13] {
         layout!("sgub_card_table", CardTable { cards, count }),
         layout!("sgub_wave_source", WaveSource { copied, pool }),
         layout!(
+            "sgub_progress",
+            Progress {
+                part,
+                cursor,
+                operation_index,
+                operation_count,
+                write_index,
+                frame_index,
+                initialized,
+                finished,
+                wave_sources,
+            }
+        ),
+        layout!(
             "sgub_player",
             Player {
                 header,
                 cards,
                 uses_si22,
-                part,
-                initialized,
-                finished,
-                operation_index,
-                operation_count,
-                write_index,
-                frame_index,
-                cursor,
-                wave_sources,
+                progress,
             }
         ),
         layout!(
@@ -286,18 +292,20 @@ fn the_library_has_these_declarations() {
             count: 2,
         },
         uses_si22: true,
-        part: 0,
-        initialized: false,
-        finished: false,
-        operation_index: 0,
-        operation_count: 0,
-        write_index: 0,
-        frame_index: 0,
-        cursor: header.frame_start,
-        wave_sources: [WaveSource {
-            copied: false,
-            pool: 0,
-        }; 16],
+        progress: Progress {
+            part: 0,
+            cursor: header.frame_start,
+            operation_index: 0,
+            operation_count: 0,
+            write_index: 0,
+            frame_index: 0,
+            initialized: false,
+            finished: false,
+            wave_sources: [WaveSource {
+                copied: false,
+                pool: 0,
+            }; 16],
+        },
     };
     assert_eq!((started.number, started.place), (0, 0));
     assert_eq!(started.player, unplayed);
@@ -306,15 +314,16 @@ fn the_library_has_these_declarations() {
     let mut run = [WriteRecord::default(); 258];
     let vsync = super::advance_vsync(&mut started.player, &file, &mut run[..257]);
     assert_eq!((vsync.number, vsync.count, vsync.complete), (0, 257, false));
-    let mut played = Player {
+    let mut played = unplayed;
+    played.progress = Progress {
         part: 1,
         operation_index: 1,
         operation_count: 4,
         write_index: 1,
         cursor: header.initial_start as usize + 16,
-        ..unplayed
+        ..unplayed.progress
     };
-    played.wave_sources[1].copied = true;
+    played.progress.wave_sources[1].copied = true;
     assert_eq!(started.player, played);
     assert_eq!(run[257], WriteRecord::default());
 }

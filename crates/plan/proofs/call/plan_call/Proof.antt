@@ -1,6 +1,9 @@
 -- `plan::call::plan_call` meets its contract. Assumes nothing.
+use mathlib.Core.Path.{ap, _∙_}
 use borrow.Author.Needs.{needs}
+use Rattle.format.specs.Checked.{refuse}
 use Rattle.format.specs.Pace.{planned}
+use Rattle.belongs.proofs.Belongs.{foreign-is}
 use Rattle.plan.proofs.Begins.{planned-foreign, planned-own}
 use Rattle.plan.proofs.call.plan_call.Statement.{statement}
 use Rattle.plan.proofs.call.plan_call.Tie as tie
@@ -17,8 +20,8 @@ refused-plan-requires c κs = search needs
 
 returns-2 : tie.Need-returns-2
 returns-2 c =
-    let a = c .before .before .before .before .before .before .args in
-    planned-foreign (a .state) (a .file .now) (a .room) (c .before .before .foreign .result) _ (c .before .before .before .if1 .left) (c .before .before .foreign .ensures) (c .before .if2 .taken) (c .refused-plan .ensures)
+    let a = c .before .before .before .before .before .before .before .args in
+    planned-foreign (a .state) (a .file .now) (a .room) (c .before .before .foreign .result) _ (c .before .before .before .before .if1 .left) (ap (refuse 25 0) (c .before .before .foreign .ensures) ∙ foreign-is (a .state) (a .file .now)) (c .before .if2 .taken) (c .refused-plan .ensures)
 
 plan-part-requires : tie.Need-plan-part-requires
 plan-part-requires c κs = search needs
@@ -28,8 +31,8 @@ told-requires c κs = search needs
 
 returns-3 : tie.Need-returns-3
 returns-3 c =
-    let a = c .before .before .before .before .before .before .before .args in
-    planned-own (a .state) (a .file .now) (a .room) (c .before .before .before .foreign .result) (c .before .plan-part .result) _ (c .before .before .before .before .if1 .left) (c .before .before .before .foreign .ensures) (c .before .before .if2 .left) (c .told .ensures) (c .before .plan-part .ensures)
+    let a = c .before .before .before .before .before .before .before .before .args in
+    planned-own (a .state) (a .file .now) (a .room) (c .before .before .before .foreign .result) (c .before .plan-part .result) _ (c .before .before .before .before .before .if1 .left) (ap (refuse 25 0) (c .before .before .before .foreign .ensures) ∙ foreign-is (a .state) (a .file .now)) (c .before .before .if2 .left) (c .told .ensures) (c .before .plan-part .ensures)
 
 pub plan-call-spec : {M : Type 1} → statement M
 plan-call-spec =

@@ -6,9 +6,6 @@ use Rattle.sgub.proofs.play.sgub_start.Tie as tie
 start-requires : tie.Need-start-requires
 start-requires c κs = search needs
 
-player-of-requires : tie.Need-player-of-requires
-player-of-requires c κs = search needs
-
 enum-told : tie.Need-enum-told
 enum-told c = search needs
 
@@ -20,22 +17,19 @@ number-requires c κs = search needs
 
 returns : tie.Need-returns
 returns c =
-    let made = c .before .before in
-    let found = made .before .before .start .ensures in
-    rw (made .player-of .ensures, ← (found .0), ← (found .1), c .enum-told .given .1)
+    let found = c .before .before .before .start .ensures in
+    rw (← (found .0), ← (found .1), c .enum-told .given .1)
 
 returns-2 : tie.Need-returns-2
 returns-2 c =
-    let made = c .before .before .before .before in
-    let found = made .before .before .start .ensures in
-    rw (c .number .ensures, made .player-of .ensures, ← (found .0), ← (found .1), c .before .before .verdict .given .1)
+    let found = c .before .before .before .before .before .start .ensures in
+    rw (c .number .ensures, ← (found .0), ← (found .1), c .before .before .verdict .given .1)
 
 pub sgub-start-spec : {M : Type 1} → statement M
 sgub-start-spec =
     tie.close
     (tie.spec
     start-requires
-    player-of-requires
     enum-told
     enum-known-verdict
     number-requires

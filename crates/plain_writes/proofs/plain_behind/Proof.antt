@@ -1,0 +1,90 @@
+use borrow.Author.Needs.{needs}
+use borrow.Author.Tests.{not-true, not-false}
+use native.Mathlib.Omega.{arith}
+use mathlib.Core.Path.{_≡_, refl, sym, _∙_}
+use Rattle.plain_writes.specs.Plain.{plainBehind}
+use Rattle.plain_writes.proofs.Behind.{behind-step, behind-short, behind-other}
+use Rattle.plain_writes.proofs.plain_behind.Statement.{statement}
+use Rattle.plain_writes.proofs.plain_behind.Tie as tie
+use Rattle.plain_writes.proofs.plain_behind.Reads as reads
+use Rattle.plain_writes.proofs.plain_behind.Lts as lts
+use Rattle.big_endian.proofs.window.Reads as window-reads
+use Rattle.plain_writes.proofs.plain_in.Reads as plain-in-reads
+use Rattle.plain_writes.proofs.plain_size.Reads as plain-size-reads
+
+abbrev Inv-loop : tie.InvT-loop
+Inv-loop file version end count start size at₀ left₀ at left = plainBehind version file end count start ≡ plainBehind version file end left at
+
+abbrev μ-loop : tie.MeasureT-loop
+μ-loop file version end count start size at₀ left₀ at left = left
+
+plain-size-requires : tie.Need-plain-size-requires Inv-loop μ-loop
+plain-size-requires c κs = search needs
+
+loop-holds : tie.Need-loop-holds Inv-loop μ-loop
+loop-holds c = refl
+
+returns : tie.Need-returns Inv-loop μ-loop
+returns c =
+    let l = c .before .before in
+    let a = l .before .before .before .args in
+    rw (l .loop .inv, behind-short (a .version) (a .file .now) (a .end) (l .loop .left) (l .loop .at) (c .before .loop-test .taken) (omega (arith, c .if1 .taken)))
+
+returns-2 : tie.Need-returns-2 Inv-loop μ-loop
+returns-2 c =
+    let l = c .before .before .before in
+    let a = l .before .before .before .args in
+    rw (l .loop .inv, behind-short (a .version) (a .file .now) (a .end) (l .loop .left) (l .loop .at) (c .before .before .loop-test .taken) (omega (arith, c .if2 .taken, c .before .if1 .left)))
+
+window-requires : tie.Need-window-requires Inv-loop μ-loop
+window-requires c κs = search needs
+
+plain-in-requires : tie.Need-plain-in-requires Inv-loop μ-loop
+plain-in-requires c κs = search needs
+
+returns-3 : tie.Need-returns-3 Inv-loop μ-loop
+returns-3 c =
+    let l = c .before .before .before .before .before .before in
+    let a = l .before .before .before .args in
+    rw (l .loop .inv, behind-other (a .version) (a .file .now) (a .end) (l .loop .left) (l .loop .at) (c .before .before .before .before .before .loop-test .taken) (omega (arith, c .before .before .before .if2 .left, c .before .before .before .before .if1 .left)) (rw (← (c .before .before .window .ensures)) (sym (c .before .plain-in .ensures) ∙ not-true _ (c .if3 .taken))))
+
+add-at : tie.Need-add-at Inv-loop μ-loop
+add-at c = search needs
+
+sub-left : tie.Need-sub-left Inv-loop μ-loop
+sub-left c = search needs
+
+loop-less : tie.Need-loop-less Inv-loop μ-loop
+loop-less c = search needs
+
+loop-again : tie.Need-loop-again Inv-loop μ-loop
+loop-again c =
+    let l = c .before .before .before .before .before .before in
+    let a = l .before .before .before .args in
+    rw (l .loop .inv, behind-step (a .version) (a .file .now) (a .end) (l .loop .left) (l .loop .at) (c .before .before .before .before .before .loop-test .taken) (omega (arith, c .before .before .before .if2 .left, c .before .before .before .before .if1 .left)) (rw (← (c .before .before .window .ensures)) (sym (c .before .plain-in .ensures) ∙ not-false _ (c .if3 .left))), l .before .plain-size .ensures .0)
+
+returns-4 : tie.Need-returns-4 Inv-loop μ-loop
+unfolding plainBehind
+returns-4 c =
+    let l = c .before in
+    let none : l .loop .left ≡ 0 = omega arith in
+    rw (l .loop .inv, none)
+
+pub plain-behind-spec : {M : Type 1} → statement M
+plain-behind-spec =
+    tie.close
+    (tie.spec
+    Inv-loop
+    μ-loop
+    plain-size-requires
+    loop-holds
+    returns
+    returns-2
+    window-requires
+    plain-in-requires
+    returns-3
+    add-at
+    sub-left
+    loop-less
+    loop-again
+    returns-4)

@@ -1,0 +1,85 @@
+// Plain WRITEs: records and WRITEs to a target whose limit needs no card, which are a core, PCM memory, version 3's target 3 and
+// version 4's target 11. A run of them is passed by a loop that looks at nothing of the player's state.
+use big_endian::byte_at;
+use big_endian::read_u24;
+use big_endian::window;
+use fields::address_width;
+use fields::read_address;
+use format::Target;
+ghost use mathlib.Core.Path.{_≡_};
+ghost use Prim.Native.Nat.{_≤_};
+ghost use lib.ListN.{length};
+ghost use Rattle.plain_writes.specs.Plain.{plainEnd, plainSize, plainIn, plainBehind};
+
+// The address behind the last one of such a target; 0 for the others.
+fn plain_end(version: u8, target: u8) -> u32
+    ensures { λ r. ⌜ r ≡ plainEnd version target ⌝ }
+{
+    if target < 2 {
+        return Target::CORE_LAST + 1;
+    }
+    if target == 2 {
+        return Target::PCM_LAST + 1;
+    }
+    if version == 3 {
+        if target == 3 {
+            return Target::CARD_LAST + 1;
+        }
+        return 0;
+    }
+    if version == 4 {
+        if target == 11 {
+            return Target::SI22_LAST + 1;
+        }
+        return 0;
+    }
+    0
+}
+
+// How many bytes a plain WRITE has.
+pub fn plain_size(version: u8) -> usize
+    ensures { λ r. ⌜ (r ≡ plainSize version) × (r ≤ 7) ⌝ }
+{
+    if version == 1 {
+        return 5;
+    }
+    3 + address_width(version)
+}
+
+// Whether 16 bytes begin with one.
+fn plain_in(version: u8, bytes: &[u8]) -> bool
+    ensures { λ r. ⌜ r ≡ plainIn version (now (bytes .entry)) ⌝ }
+{
+    if version == 1 {
+        return read_u24(bytes, 1) < plain_end(version, byte_at(bytes, 0));
+    }
+    if byte_at(bytes, 0) != 0 {
+        return false;
+    }
+    let address = read_address(bytes, address_width(version), 2);
+    address < plain_end(version, byte_at(bytes, 1))
+}
+
+// The place behind so many of them; 0 where one is not plain or has no 16 bytes before the end.
+pub fn plain_behind(file: &[u8], version: u8, end: usize, count: u32, start: usize) -> usize
+    requires { ⌜ end ≤ length (now file) ⌝ }
+    ensures { λ r. ⌜ r ≡ plainBehind version (now (file .entry)) end count start ⌝ }
+{
+    let size = plain_size(version);
+    let mut at = start;
+    let mut left = count;
+    while 0 < left {
+        if end < 16 {
+            return 0;
+        }
+        if end - 16 < at {
+            return 0;
+        }
+        if !plain_in(version, window(file, at)) {
+            return 0;
+        }
+        at += size;
+        left -= 1;
+    }
+    at
+}

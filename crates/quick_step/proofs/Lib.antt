@@ -1,0 +1,3 @@
+pub mod Takes
+pub mod Stepped
+pub mod Plainly

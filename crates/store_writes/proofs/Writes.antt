@@ -1,0 +1,128 @@
+-- Laws of the writes that are stored: how many they are, each of them, and the run after some turns of the loop.
+use Prim.Native.Nat.{ℕ, zero, suc, _+_, _*_, _≤_, _<_}
+use mathlib.Core.Bool.{Bool, true, false, cond, _||_, or-true}
+use mathlib.Core.List.{List, _++_}
+use mathlib.Core.Path.{_≡_, refl, sym, ap, _∙_}
+use native.Mathlib.Nat.{suc-mul, add-zero, zero-add, mul-le-mul-right}
+use native.Mathlib.Omega.{arith}
+use borrow.Author.Tests.{lt-ltb, le-ltb, ltb-false, leb-true}
+use lib.Dec.{eqb, ltb}
+use lib.ListN.{length, getD, set, take, drop}
+use lib.Seq.{paste, length-paste}
+use Rattle.format.specs.declared.operation.WriteRecord.{WriteRecord}
+use Rattle.format.specs.Bytes.{byte, be, part}
+use Rattle.format.specs.Operation.{addressWidth}
+use Rattle.format.specs.Writes.{write}
+use Rattle.format.proofs.Bytes.{byte-part, be-part}
+use Rattle.format.proofs.Checks.{and-true}
+use Rattle.format.proofs.Sizes.{width-range}
+use Rattle.plain_writes.specs.Plain.{plainSize, plainAt, plainBehind, plainWrite, plainWrites}
+use Rattle.plain_writes.proofs.Gather.{all-plain}
+use Rattle.writes.proofs.Lists.{paste-more, paste-all}
+use Rattle.store_writes.specs.Stored.{storable, writesStored}
+
+-- HOW MANY
+
+module _ (room size version from count : ℕ) where
+  -- the run is too short for them
+  pub storable-room : room < count → storable room size version from count ≡ 0
+  unfolding storable
+  storable-room less = rw (lt-ltb room count less)
+
+  -- the file is
+  pub storable-file : size + plainSize version < from + count * plainSize version + 16 → storable room size version from count ≡ 0
+  unfolding storable
+  storable-file less = rw (lt-ltb _ _ less, or-true)
+
+  -- all of them fit
+  pub storable-fit : count ≤ room → from + count * plainSize version + 16 ≤ size + plainSize version → storable room size version from count ≡ count
+  unfolding storable
+  storable-fit inside within = rw (le-ltb room count inside, le-ltb _ _ within)
+
+  -- those that are stored fit into the run, and each of them into the file
+  pub storable-fits : (storable room size version from count ≤ room) × ((i : ℕ) → i < storable room size version from count → from + i * plainSize version + 16 ≤ size)
+  unfolding storable
+  storable-fits = go (ltb room count) refl (ltb (size + plainSize version) (from + count * plainSize version + 16)) refl
+    where
+      go : (a : Bool) → ltb room count ≡ a → (b : Bool) → ltb (size + plainSize version) (from + count * plainSize version + 16) ≡ b
+          → (cond (a || b) 0 count ≤ room) × ((i : ℕ) → i < cond (a || b) 0 count → from + i * plainSize version + 16 ≤ size)
+      go true e b f = (omega arith, λ i less. absurd (omega (arith, less)))
+      go false e true f = (omega arith, λ i less. absurd (omega (arith, less)))
+      go false e false f =
+          (ltb-false room count e, λ i less. omega (arith, less, ltb-false (size + plainSize version) (from + count * plainSize version + 16) f, suc-mul i (plainSize version), mul-le-mul-right {m = suc i} {n = count} (plainSize version) (omega (arith, less))))
+
+-- so many plain WRITEs have 16 bytes from the last one on before the end
+behind-room : (version : ℕ) (file : List ℕ) (end count at : ℕ) → 0 < plainBehind version file end (suc count) at → at + count * plainSize version + 16 ≤ end
+unfolding plainAt
+behind-room version file end zero at some = omega (arith, leb-true (at + 16) end (and-true _ _ (all-plain version file end zero at some .0) .0))
+behind-room version file end (suc count) at some =
+    omega (arith, behind-room version file end count (at + plainSize version) (rw (all-plain version file end (suc count) at some .1) at some), suc-mul count (plainSize version))
+
+-- where so many are plain, all of them are stored
+pub storable-all : (version : ℕ) (file : List ℕ) (room end from count : ℕ) → end ≤ length file → count ≤ room → 0 < plainBehind version file end count from → storable room (length file) version from count ≡ count
+unfolding storable
+storable-all version file room end from zero within inside some = go (ltb room zero || ltb (length file + plainSize version) (from + zero * plainSize version + 16))
+  where
+    go : (b : Bool) → _≡_ {A = ℕ} (cond b 0 0) 0
+    go true = refl
+    go false = refl
+storable-all version file room end from (suc count) within inside some =
+    storable-fit room (length file) version from (suc count) inside (omega (arith, within, behind-room version file end count from some, suc-mul count (plainSize version)))
+
+-- EACH OF THEM
+
+pub writes-long : (version : ℕ) (file : List ℕ) (n from : ℕ) → length (plainWrites version file n from) ≡ n
+unfolding plainWrites
+writes-long version file zero from = refl
+writes-long version file (suc n) from = ap suc (writes-long version file n (from + plainSize version))
+
+pub write-at : (version : ℕ) (file : List ℕ) (n from i : ℕ) (d : WriteRecord) → i < n → getD (plainWrites version file n from) i d ≡ plainWrite version file (from + i * plainSize version)
+unfolding plainWrites
+write-at version file zero from i d less = absurd (omega (arith, less))
+write-at version file (suc n) from zero d less = ap (plainWrite version file) (omega arith)
+write-at version file (suc n) from (suc i) d less =
+    write-at version file n (from + plainSize version) i d (omega (arith, less)) ∙ ap (plainWrite version file) (omega (arith, suc-mul i (plainSize version)))
+
+-- its fields stand in 16 bytes from its place on
+module _ (version : ℕ) (file : List ℕ) (at : ℕ) where
+  pub write-first : eqb version 1 ≡ true → write (byte (part file at 16) 0) (be 3 (part file at 16) 1) (byte (part file at 16) 4) ≡ plainWrite version file at
+  unfolding plainWrite
+  write-first one = rw (one, byte-part file at 16 0 (omega arith), be-part 3 file at 16 1 (omega arith), byte-part file at 16 4 (omega arith), add-zero at)
+
+  pub write-later : eqb version 1 ≡ false → write (byte (part file at 16) 1) (be (addressWidth version) (part file at 16) 2) (byte (part file at 16) (2 + addressWidth version)) ≡ plainWrite version file at
+  unfolding plainWrite
+  write-later later =
+      let range = width-range version in
+      let last : at + (2 + addressWidth version) ≡ at + 2 + addressWidth version = omega arith in
+      rw (later, byte-part file at 16 1 (omega arith), be-part (addressWidth version) file at 16 2 (omega arith), byte-part file at 16 (2 + addressWidth version) (omega arith), last)
+
+-- THE RUN AFTER SOME TURNS
+
+module _ (file : List ℕ) (version from count : ℕ) (run : List WriteRecord) where
+  abbrev n : ℕ
+  n = storable (length run) (length file) version from count
+
+  abbrev records : List WriteRecord
+  records = plainWrites version file n from
+
+  abbrev pub pasted : (i : ℕ) → List WriteRecord
+  pasted i = take i records ++ drop i run
+
+  pasted-is : (i : ℕ) → paste run 0 records i ≡ pasted i
+  pasted-is i = rw (zero-add i)
+
+  pub pasted-long : (i : ℕ) → i ≤ n → length (pasted i) ≡ length run
+  pasted-long i less =
+      ap length (sym (pasted-is i)) ∙ length-paste run 0 records i (omega (arith, storable-fits (length run) (length file) version from count .0)) (rw (writes-long version file n from) less)
+
+  pub pasted-next : (i : ℕ) → i < n → set (pasted i) i (plainWrite version file (from + i * plainSize version)) ≡ pasted (i + 1)
+  pasted-next i less =
+      rw (zero-add i, zero-add (i + 1)) at (paste-more run 0 records i (plainWrite version file (from + i * plainSize version)) (omega (arith, storable-fits (length run) (length file) version from count .0)) (rw (writes-long version file n from) less) (write-at version file n from i (plainWrite version file (from + i * plainSize version)) less))
+
+  pub stored-is : pasted n ≡ writesStored file version from count run
+  unfolding writesStored
+  stored-is = rw (zero-add n, zero-add (length records)) at (paste-all run 0 records n (sym (writes-long version file n from)))
+
+  -- the run keeps its length
+  pub stored-long : length (writesStored file version from count run) ≡ length run
+  stored-long = ap length (sym stored-is) ∙ pasted-long n (omega arith)

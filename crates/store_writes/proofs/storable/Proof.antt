@@ -1,0 +1,51 @@
+use borrow.Author.Needs.{needs}
+use native.Mathlib.Omega.{arith}
+use native.Mathlib.Nat.{mul-le-mul-left}
+use mathlib.Core.Path.{sym, ap}
+use Prim.Native.Nat.{ℕ, _*_}
+use Rattle.store_writes.proofs.Writes.{storable-room, storable-file, storable-fit}
+use Rattle.store_writes.proofs.storable.Statement.{statement}
+use Rattle.store_writes.proofs.storable.Tie as tie
+use Rattle.store_writes.proofs.storable.Reads as reads
+use Rattle.store_writes.proofs.storable.Lts as lts
+use Rattle.plain_writes.proofs.plain_size.Reads as plain-size-reads
+
+returns : tie.Need-returns
+returns c =
+    let a = c .before .args in
+    sym (storable-room (a .room) (a .size) (a .version) (a .from) (a .count) (c .if1 .taken))
+
+plain-size-requires : tie.Need-plain-size-requires
+plain-size-requires c κs = search needs
+
+returns-2 : tie.Need-returns-2
+returns-2 c =
+    let a = c .before .before .before .args in
+    let p = c .before .plain-size in
+    sym (storable-file (a .room) (a .size) (a .version) (a .from) (a .count) (omega (arith, c .if2 .taken, p .ensures)))
+
+mul-if3 : tie.Need-mul-if3
+mul-if3 c = omega (arith, mul-le-mul-left (c .before .before .before .args .count) (c .before .plain-size .ensures .1))
+
+add-if3 : tie.Need-add-if3
+add-if3 c = omega (arith, mul-le-mul-left (c .before .before .before .args .count) (c .before .plain-size .ensures .1))
+
+sub-if3 : tie.Need-sub-if3
+sub-if3 c = omega (arith, c .before .plain-size .ensures .1)
+
+returns-3 : tie.Need-returns-3
+returns-3 c =
+    let a = c .before .before .before .before .args in
+    let p = c .before .before .plain-size in
+    sym (storable-file (a .room) (a .size) (a .version) (a .from) (a .count) (omega (arith, c .if3 .taken, p .ensures, ap (λ (k : ℕ). a .count * k) (p .ensures .0))))
+
+returns-4 : tie.Need-returns-4
+returns-4 c =
+    let a = c .before .before .before .before .args in
+    let p = c .before .before .plain-size in
+    sym (storable-fit (a .room) (a .size) (a .version) (a .from) (a .count) (c .before .before .before .if1 .left) (omega (arith, c .if3 .left, c .before .if2 .left, p .ensures, ap (λ (k : ℕ). a .count * k) (p .ensures .0))))
+
+pub storable-spec : {M : Type 1} → statement M
+storable-spec =
+    tie.close
+    (tie.spec returns plain-size-requires returns-2 mul-if3 add-if3 sub-if3 returns-3 returns-4)

@@ -1,0 +1,65 @@
+// The lent run: the writes of successive plain WRITEs, stored straight from the file.
+use big_endian::byte_at;
+use big_endian::read_u24;
+use big_endian::window;
+use fields::address_width;
+use fields::read_address;
+use format::WriteRecord;
+use plain_writes::plain_size;
+ghost use mathlib.Core.Path.{_≡_};
+ghost use Prim.Native.Nat.{_+_, _*_, _≤_};
+ghost use lib.ListN.{length};
+ghost use Rattle.plain_writes.specs.Plain.{plainSize, plainWrite};
+ghost use Rattle.store_writes.specs.Stored.{storable, writesStored};
+
+// How many of the writes are stored: all of them if they fit into the run, and their WRITEs into the file with 16 bytes from the
+// last one on, and else none.
+fn storable(room: usize, size: usize, version: u8, from: usize, count: u32) -> usize
+    ensures { λ r. ⌜ r ≡ storable room size version from count ⌝ }
+{
+    if room < count as usize {
+        return 0;
+    }
+    let step = plain_size(version);
+    if size < from {
+        return 0;
+    }
+    if size - from < count as usize * step + 16 - step {
+        return 0;
+    }
+    count as usize
+}
+
+// The write of a plain WRITE, by its index from a place on.
+fn nth_write(file: &[u8], version: u8, from: usize, index: usize) -> WriteRecord
+    requires { ⌜ from + index * plainSize version + 16 ≤ length (now file) ⌝ }
+    ensures { λ r. ⌜ r ≡ plainWrite version (now (file .entry)) (from + index * plainSize version) ⌝ }
+{
+    let bytes = window(file, from + index * plain_size(version));
+    if version == 1 {
+        return WriteRecord {
+            target: byte_at(bytes, 0),
+            address: read_u24(bytes, 1),
+            value: byte_at(bytes, 4),
+        };
+    }
+    let width = address_width(version);
+    WriteRecord {
+        target: byte_at(bytes, 1),
+        address: read_address(bytes, width, 2),
+        value: byte_at(bytes, 2 + width),
+    }
+}
+
+// The writes stand at the run's front where all of them fit; no other record is touched.
+pub fn store_writes(run: &mut [WriteRecord], file: &[u8], version: u8, from: usize, count: u32)
+    ensures { λ _. ⌜ now (run .exit) ≡ writesStored (now (file .entry)) version from count (now (run .entry)) ⌝ }
+{
+    let stop = storable(run.len(), file.len(), version, from, count);
+    let mut i = 0;
+    while i < stop {
+        let record = nth_write(file, version, from, i);
+        run[i] = record;
+        i = i + 1;
+    }
+}
