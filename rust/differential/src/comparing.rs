@@ -1,6 +1,7 @@
 //! The library's comparison against the format sheet's rule, applied to what the original plays.
 
 use crate::fields::number;
+use crate::memory::Memory;
 use crate::oracle::{self, Player, Vsync};
 use crate::rng::Rng;
 use crate::{listening, weight};
@@ -35,7 +36,7 @@ pub enum Outcome {
 pub struct Comparing {
     rng: Rng,
     /// PCM memory after the openings, by the original.
-    images: [Vec<u8>; 2],
+    images: [Memory; 2],
     lent: [Vec<u8>; 2],
     /// Lent memory before a call: a comparison with it is quicker than one byte by byte.
     before: Vec<u8>,
@@ -47,7 +48,7 @@ impl Comparing {
     pub fn new(seed: u64) -> Self {
         Self {
             rng: Rng::new(seed),
-            images: [(); 2].map(|()| vec![0; IMAGE_SIZE]),
+            images: [(); 2].map(|()| Memory::new()),
             lent: [(); 2].map(|()| Vec::new()),
             before: vec![BEFORE; IMAGE_SIZE + BEHIND],
             listening: listening::Listening::new(seed),
@@ -55,8 +56,8 @@ impl Comparing {
     }
 
     /// The images that the original leaves of the last pair that was not refused.
-    pub fn images(&self) -> &[Vec<u8>; 2] {
-        &self.images
+    pub fn images(&self) -> [&[u8]; 2] {
+        self.images.each_ref().map(Memory::bytes)
     }
 
     /// Compares a pair by the library, in images with some bytes behind them, [`BEHIND`] at most, and by the rule; then
@@ -106,9 +107,9 @@ impl Comparing {
         let [master, other] = openings;
         let openings = [master?, other?];
         for (image, opening) in self.images.iter_mut().zip(&openings) {
-            image.fill(0x80);
+            image.begin();
             for (_, address, value) in opening.iter().filter(|write| write.0 == 2) {
-                image[*address as usize] = *value;
+                image.put(*address as usize, *value);
             }
         }
         let [master, other] = headers;
@@ -130,7 +131,7 @@ impl Comparing {
         if let Some((write, writes)) = first(&cores) {
             return Ok(Some(Difference::Opening { write, writes }));
         }
-        let [master_image, other_image] = &self.images;
+        let [master_image, other_image] = self.images();
         if master_image != other_image {
             let mut bytes = master_image.iter().zip(other_image);
             let address = bytes.position(|(a, b)| a != b).expect("a byte differs");
@@ -157,7 +158,7 @@ impl Comparing {
         if answer != expected {
             return Err(format!("library {answer:?}, by the rule {difference:?}"));
         }
-        for (lent, image) in self.lent.iter().zip(&self.images) {
+        for (lent, image) in self.lent.iter().zip(self.images()) {
             let (front, behind) = lent.split_at(IMAGE_SIZE);
             if front != image {
                 return Err(String::from("an image is not what the original leaves"));

@@ -27,6 +27,7 @@ pub mod generate;
 pub mod limits;
 pub mod listening;
 pub mod masters;
+pub mod memory;
 pub mod messages;
 pub mod model;
 pub mod mutate;

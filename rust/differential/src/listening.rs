@@ -1,7 +1,8 @@
 //! Two files played by the library, each with runs of its own, and what a listener of each hears: the format sheet's demand 3.
 
+use crate::memory::Memory;
 use crate::rng::Rng;
-use sgub::{IMAGE_SIZE, StreamPlayer, WriteRecord};
+use sgub::{StreamPlayer, WriteRecord};
 
 /// Run lengths that are drawn from.
 const RUNS: &[usize] = &[0, 1, 2, 7, 64, 64, 300, 4096, 4096];
@@ -16,7 +17,7 @@ pub struct Listening {
 /// What one player was heard to do: the register writes of the current vsync, and PCM memory.
 struct Listener {
     registers: Vec<WriteRecord>,
-    memory: Vec<u8>,
+    memory: Memory,
     /// The addresses that the current vsync put a byte at.
     touched: Vec<usize>,
 }
@@ -29,7 +30,7 @@ impl Listening {
             run: vec![WriteRecord::default(); RUNS.iter().copied().max().unwrap_or(0)],
             listeners: [(); 2].map(|()| Listener {
                 registers: Vec::new(),
-                memory: vec![0; IMAGE_SIZE],
+                memory: Memory::new(),
                 touched: Vec::new(),
             }),
         }
@@ -47,7 +48,7 @@ impl Listening {
         let frames = players.each_ref().map(StreamPlayer::frame_count);
         let most = u64::from(frames[0].max(frames[1]));
         for listener in &mut self.listeners {
-            listener.memory.fill(0x80);
+            listener.memory.begin();
         }
         for vsync in 1..=most + 2 + u64::from(self.rng.below(3)) {
             for index in [0, 1] {
@@ -57,7 +58,7 @@ impl Listening {
             // The memories were the same before this vsync, so they can differ only where it put a byte.
             let mut touched = ours.touched.iter().chain(&theirs.touched);
             let same = ours.registers == theirs.registers
-                && touched.all(|at| ours.memory[*at] == theirs.memory[*at]);
+                && touched.all(|at| ours.memory.bytes()[*at] == theirs.memory.bytes()[*at]);
             if !same {
                 return Ok(Some(vsync));
             }
@@ -96,7 +97,7 @@ impl Listener {
             0 | 1 => self.registers.push(record),
             2 => {
                 let at = record.address as usize;
-                self.memory[at] = record.value;
+                self.memory.put(at, record.value);
                 self.touched.push(at);
             }
             _ => {}

@@ -36,7 +36,7 @@ fn size_of_field<S, F>(_: fn(&S) -> &F) -> usize {
     size_of::<F>()
 }
 
-fn layouts() -> [Layout; 13] {
+fn layouts() -> [Layout; 14] {
     [
         layout!(
             "sgub_verdict",
