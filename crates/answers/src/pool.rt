@@ -1,6 +1,6 @@
 // A pool as plain numbers: the kit exports no reference, so its payload is an offset and a size.
-use pool_lookup::PoolFound;
 use format::Pool;
+use pool_lookup::PoolFound;
 ghost use mathlib.Core.Path.{_≡_};
 ghost use Rattle.pool_lookup.specs.Found.{poolFoundOf};
 ghost use Rattle.answers.specs.Surface.{entryFields, poolOn};

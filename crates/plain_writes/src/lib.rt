@@ -3,9 +3,9 @@
 use big_endian::byte_at;
 use big_endian::read_u24;
 use big_endian::window;
+use targets::Target;
 use widths::address_width;
 use widths::read_address;
-use targets::Target;
 ghost use mathlib.Core.Path.{_≡_};
 ghost use Prim.Native.Nat.{_≤_};
 ghost use lib.ListN.{length};

@@ -2,10 +2,10 @@
 use big_endian::byte_at;
 use big_endian::read_u24;
 use big_endian::window;
-use widths::address_width;
-use widths::read_address;
 use format::WriteRecord;
 use plain_writes::plain_size;
+use widths::address_width;
+use widths::read_address;
 ghost use mathlib.Core.Path.{_≡_};
 ghost use Prim.Native.Nat.{_+_, _*_, _≤_};
 ghost use lib.ListN.{length};
