@@ -136,7 +136,7 @@ fn it_says_what_it_builds_and_how_long_it_took() {
     let outline = Outline::new("launcher_says");
     let output = outline.launch(&outline.root.join("bin"), &[]);
     let messages = "\
-sgub: building the proved library (from nothing it takes some minutes) ..
+sgub: building the proved library (from nothing it takes about ten minutes) ..
 sgub: built the proved library in N s
 sgub: building the command (it takes less than a minute) ..
 sgub: built the command in N s
@@ -170,7 +170,7 @@ fn a_failed_build_shows_its_log() {
     let output = outline.launch(&outline.root.join("bin"), &[]);
     let log = outline.root.join("target/launcher/library.log");
     let messages = format!(
-        "sgub: building the proved library (from nothing it takes some minutes) ..\nnot proved\n\
+        "sgub: building the proved library (from nothing it takes about ten minutes) ..\nnot proved\n\
          sgub: could not run: the proved library cannot be built; the lines above are {}\n",
         log.display()
     );
