@@ -1,9 +1,9 @@
 -- What a call answers by the state: a finished one is left alone, the part under way goes on, and between vsyncs the next one begins.
 -- Each law says it of an answer `r` that is known for the case.
 use Prim.Native.Nat.{ℕ, _≤_, _<_}
-use mathlib.Core.Bool.{Bool, true, false, cond, not, true≢false, false≢true}
+use mathlib.Core.Bool.{Bool, true, false, not}
 use mathlib.Core.List.{List}
-use mathlib.Core.Path.{_≡_, refl, sym, ap, _∙_}
+use mathlib.Core.Path.{_≡_, sym, ap, _∙_}
 use borrow.Author.Tests.{lt-ltb, le-ltb}
 use Rattle.format.specs.State.{partOf}
 use Rattle.format.specs.declared.player.Part.{Part}
@@ -13,23 +13,16 @@ use Rattle.format.specs.declared.player.StreamPlayer.{StreamPlayer}
 use Rattle.format.specs.Checked.{refuse, _>>_}
 use Rattle.format.specs.Pace.{planFrame, planOpening, planClosing, plan, planned}
 use Rattle.format.specs.Player.{openingBegun, closingAt, belongs}
+use Rattle.format.proofs.Checks.{cond-true, cond-false}
 use Rattle.plan.specs.declared.call.CallPlan.{CallPlan}
 use Rattle.plan.specs.declared.taken.Taken.{Taken}
 use Rattle.plan.specs.Told.{noPlan, planTold, takenTold, closingTaken, planBetween, planBegun}
 use Rattle.plan.proofs.Telling.{told-25, told-closing}
 
-first : {A : Type 0} (b : Bool) (x y : A) → b ≡ true → cond b x y ≡ x
-first true x y e = refl
-first false x y e = absurd (false≢true e)
-
-second : {A : Type 0} (b : Bool) (x y : A) → b ≡ false → cond b x y ≡ y
-second true x y e = absurd (true≢false e)
-second false x y e = refl
-
 module _ (state : StreamPlayer) (file : List ℕ) (room : ℕ) where
   planned-on : state .progress .finished ≡ false → planTold state (planned state file room) ≡ planTold state (belongs state file >> plan state file room (state .progress) (partOf (state .progress .part)))
   unfolding planned
-  planned-on e = ap (planTold state) (second (state .progress .finished) _ _ e) ∙ told-25 state (belongs state file >> plan state file room (state .progress) (partOf (state .progress .part)))
+  planned-on e = ap (planTold state) (cond-false (state .progress .finished) _ _ e) ∙ told-25 state (belongs state file >> plan state file room (state .progress) (partOf (state .progress .part)))
 
   -- a state of another file
   pub planned-foreign : (other : Bool) (r : CallPlan) → state .progress .finished ≡ false → refuse 25 0 other ≡ belongs state file → other ≡ true → r ≡ noPlan state → r ≡ planTold state (planned state file room)
@@ -44,19 +37,19 @@ module _ (state : StreamPlayer) (file : List ℕ) (room : ℕ) (p : Progress) (r
 
   pub begins-opening : (q : Progress) → not (p .initialized) ≡ true → q ≡ openingBegun (state .header) p → r ≡ planTold state (planOpening state file room q) → r ≡ planTold state (planBetween state file room p)
   unfolding plan
-  begins-opening q e begun h = h ∙ ap (λ (x : Progress). planTold state (planOpening state file room x)) begun ∙ ap (planTold state) (sym (first (not (p .initialized)) _ _ e))
+  begins-opening q e begun h = h ∙ ap (λ (x : Progress). planTold state (planOpening state file room x)) begun ∙ ap (planTold state) (sym (cond-true (not (p .initialized)) _ _ e))
 
   pub begins-frame : not (p .initialized) ≡ false → p .«frame_index» < state .header .«frame_count» → r ≡ planTold state (planBegun state file room (p .cursor) (p .«frame_index») p) → r ≡ planTold state (planBetween state file room p)
   unfolding plan
-  begins-frame e less h = h ∙ ap (planTold state) (sym (second (not (p .initialized)) _ _ e ∙ first _ _ _ (lt-ltb _ _ less)))
+  begins-frame e less h = h ∙ ap (planTold state) (sym (cond-false (not (p .initialized)) _ _ e ∙ cond-true _ _ _ (lt-ltb _ _ less)))
 
   pub begins-again : not (p .initialized) ≡ false → state .header .«frame_count» ≤ p .«frame_index» → state .header .repeat ≡ true → r ≡ planTold state (planBegun state file room (state .header .«frame_start») 0 p) → r ≡ planTold state (planBetween state file room p)
   unfolding plan
-  begins-again e over again h = h ∙ ap (planTold state) (sym (second (not (p .initialized)) _ _ e ∙ second _ _ _ (le-ltb _ _ over) ∙ first _ _ _ again))
+  begins-again e over again h = h ∙ ap (planTold state) (sym (cond-false (not (p .initialized)) _ _ e ∙ cond-false _ _ _ (le-ltb _ _ over) ∙ cond-true _ _ _ again))
 
   begins-closing : not (p .initialized) ≡ false → state .header .«frame_count» ≤ p .«frame_index» → state .header .repeat ≡ false → r ≡ planTold state (planClosing state room (closingAt 0 false p)) → r ≡ planTold state (planBetween state file room p)
   unfolding plan
-  begins-closing e over once h = h ∙ ap (planTold state) (sym (second (not (p .initialized)) _ _ e ∙ second _ _ _ (le-ltb _ _ over) ∙ second _ _ _ once))
+  begins-closing e over once h = h ∙ ap (planTold state) (sym (cond-false (not (p .initialized)) _ _ e ∙ cond-false _ _ _ (le-ltb _ _ over) ∙ cond-false _ _ _ once))
 
   -- THE PART THAT IS PLAYING
 

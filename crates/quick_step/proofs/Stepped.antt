@@ -15,6 +15,7 @@ use Rattle.format.specs.Checked.{Checked, ok, refuse, _>>=_, _>>_}
 use Rattle.format.specs.Player.{placed, gathered, Played, openingBegun, frameStart, frameBegun, closingAt, operationsLeft, playFrame, playOpening, playClosing, play, belongs, as25, call}
 use Rattle.format.specs.State.{partNumber, partOf, moved}
 use Rattle.format.specs.Stream.{openingLimit}
+use Rattle.format.proofs.Checks.{cond-true, cond-false}
 use Rattle.belongs.specs.Foreign.{foreignTo}
 use Rattle.belongs.proofs.Belongs.{foreign-is}
 use Rattle.plain_writes.specs.Plain.{plainBehind, plainWrites}
@@ -22,14 +23,6 @@ use Rattle.plain_writes.proofs.Gather.{gather-all}
 use Rattle.quick_step.specs.declared.Step.{Step}
 use Rattle.quick_step.specs.Step.{noStep, stepOn, stepFrame, openingEnd, stepOpening, stepBetween, stepPart, stepOf, stepped}
 use Rattle.quick_step.proofs.Takes.{Way, within, to-end, on-takes}
-
-first : {A : Type 0} (b : Bool) (x y : A) → b ≡ true → cond b x y ≡ x
-first true x y e = refl
-first false x y e = absurd (false≢true e)
-
-second : {A : Type 0} (b : Bool) (x y : A) → b ≡ false → cond b x y ≡ y
-second true x y e = absurd (true≢false e)
-second false x y e = refl
 
 module _ (state : StreamPlayer) (file : List ℕ) (room : ℕ) where
   abbrev version : ℕ
@@ -100,9 +93,9 @@ module _ (state : StreamPlayer) (file : List ℕ) (room : ℕ) where
   between-stepped p step none going e taken = go (p .initialized) refl (ltb (p .«frame_index») (state .header .«frame_count»)) refl (state .header .repeat) refl e
     where
       go : (on : Bool) → p .initialized ≡ on → (more : Bool) → ltb (p .«frame_index») (state .header .«frame_count») ≡ more → (again : Bool) → state .header .repeat ≡ again → step ≡ cond (not on) (stepOpening file (state .header) room (state .header .«initial_start») 0 (state .header .«initial_count») 0) (cond more (stepFrame file version room (p .cursor) (p .«frame_index» + 1)) (cond again (stepFrame file version room (state .header .«frame_start») 1) noStep)) → cond (not (p .initialized)) (playOpening state file room (openingBegun (state .header) p)) (cond (ltb (p .«frame_index») (state .header .«frame_count»)) (frameBegun file (p .cursor) (p .«frame_index») p >>= playFrame state file room) (cond (state .header .repeat) (frameBegun file (state .header .«frame_start») 0 p >>= playFrame state file room) (playClosing state room (closingAt 0 false p)))) ≡ ok (answerOf p step)
-      go false on more m again a h = first (not (p .initialized)) _ _ (ap not on) ∙ rw (opening-stepped (openingBegun (state .header) p) step refl refl h taken, none, going, on)
-      go true on true m again a h = second (not (p .initialized)) _ _ (ap not on) ∙ first (ltb (p .«frame_index») (state .header .«frame_count»)) _ _ m ∙ frame-begins p (p .cursor) (p .«frame_index») step none on going h taken
-      go true on false m true a h = second (not (p .initialized)) _ _ (ap not on) ∙ second (ltb (p .«frame_index») (state .header .«frame_count»)) _ _ m ∙ first (state .header .repeat) _ _ a ∙ frame-begins p (state .header .«frame_start») 0 step none on going h taken
+      go false on more m again a h = cond-true (not (p .initialized)) _ _ (ap not on) ∙ rw (opening-stepped (openingBegun (state .header) p) step refl refl h taken, none, going, on)
+      go true on true m again a h = cond-false (not (p .initialized)) _ _ (ap not on) ∙ cond-true (ltb (p .«frame_index») (state .header .«frame_count»)) _ _ m ∙ frame-begins p (p .cursor) (p .«frame_index») step none on going h taken
+      go true on false m true a h = cond-false (not (p .initialized)) _ _ (ap not on) ∙ cond-false (ltb (p .«frame_index») (state .header .«frame_count»)) _ _ m ∙ cond-true (state .header .repeat) _ _ a ∙ frame-begins p (state .header .«frame_start») 0 step none on going h taken
       go true on false m false a h = absurd (false≢true (rw h at taken))
 
   part-stepped : (p : Progress) (step : Step) → p .«write_index» ≡ 0 → p .finished ≡ false → step ≡ stepPart file (state .header) room p → step .taken ≡ true → play state file room p (partOf (p .part)) ≡ ok (answerOf p step)
@@ -126,4 +119,4 @@ module _ (state : StreamPlayer) (file : List ℕ) (room : ℕ) where
       go false o true n true f h = absurd (false≢true (rw h at taken))
       go false o true n false f h =
           let own : belongs state file ≡ ok tt = sym (foreign-is state file) ∙ ap (refuse 25 0) f in
-          second (state .progress .finished) _ _ o ∙ ap as25 (ap (λ (b : Checked (Unit {0})). b >> play state file room (state .progress) (partOf (state .progress .part))) own ∙ part-stepped (state .progress) step (eqb-true _ _ n) o h taken)
+          cond-false (state .progress .finished) _ _ o ∙ ap as25 (ap (λ (b : Checked (Unit {0})). b >> play state file room (state .progress) (partOf (state .progress .part))) own ∙ part-stepped (state .progress) step (eqb-true _ _ n) o h taken)

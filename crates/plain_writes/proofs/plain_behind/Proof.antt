@@ -6,11 +6,6 @@ use Rattle.plain_writes.specs.Plain.{plainBehind}
 use Rattle.plain_writes.proofs.Behind.{behind-step, behind-short, behind-other}
 use Rattle.plain_writes.proofs.plain_behind.Statement.{statement}
 use Rattle.plain_writes.proofs.plain_behind.Tie as tie
-use Rattle.plain_writes.proofs.plain_behind.Reads as reads
-use Rattle.plain_writes.proofs.plain_behind.Lts as lts
-use Rattle.big_endian.proofs.window.Reads as window-reads
-use Rattle.plain_writes.proofs.plain_in.Reads as plain-in-reads
-use Rattle.plain_writes.proofs.plain_size.Reads as plain-size-reads
 
 abbrev Inv-loop : tie.InvT-loop
 Inv-loop file version end count start size at₀ left₀ at left = plainBehind version file end count start ≡ plainBehind version file end left at

@@ -4,8 +4,6 @@ use mathlib.Core.Bool.{and-false, or-false}
 use Rattle.plain_writes.specs.Plain.{plainEnd}
 use Rattle.plain_writes.proofs.plain_end.Statement.{statement}
 use Rattle.plain_writes.proofs.plain_end.Tie as tie
-use Rattle.plain_writes.proofs.plain_end.Reads as reads
-use Rattle.plain_writes.proofs.plain_end.Lts as lts
 
 add-result : tie.Need-add-result
 add-result c = search needs

@@ -4,13 +4,6 @@ use mathlib.Core.Bool.{and-false, or-false}
 use Rattle.plain_writes.specs.Plain.{plainIn}
 use Rattle.plain_writes.proofs.plain_in.Statement.{statement}
 use Rattle.plain_writes.proofs.plain_in.Tie as tie
-use Rattle.plain_writes.proofs.plain_in.Reads as reads
-use Rattle.plain_writes.proofs.plain_in.Lts as lts
-use Rattle.big_endian.proofs.byte_at.Reads as byte-at-reads
-use Rattle.big_endian.proofs.read_u24.Reads as read-u24-reads
-use Rattle.widths.proofs.address_width.Reads as address-width-reads
-use Rattle.widths.proofs.read_address.Reads as read-address-reads
-use Rattle.plain_writes.proofs.plain_end.Reads as plain-end-reads
 
 read-u24-requires : tie.Need-read-u24-requires
 read-u24-requires c κs = search needs

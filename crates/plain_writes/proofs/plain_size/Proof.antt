@@ -4,9 +4,6 @@ use borrow.Author.Tests.{eq-eqb, ne-eqb}
 use Rattle.plain_writes.specs.Plain.{plainSize}
 use Rattle.plain_writes.proofs.plain_size.Statement.{statement}
 use Rattle.plain_writes.proofs.plain_size.Tie as tie
-use Rattle.plain_writes.proofs.plain_size.Reads as reads
-use Rattle.plain_writes.proofs.plain_size.Lts as lts
-use Rattle.widths.proofs.address_width.Reads as address-width-reads
 
 returns : tie.Need-returns
 unfolding plainSize

@@ -3,8 +3,6 @@ use borrow.Author.Tests.{le-leb, le-ltb, lt-leb, lt-ltb}
 use mathlib.Core.Bool.{and-false, or-false}
 use Rattle.quick_step.proofs.fitting.Statement.{statement}
 use Rattle.quick_step.proofs.fitting.Tie as tie
-use Rattle.quick_step.proofs.fitting.Reads as reads
-use Rattle.quick_step.proofs.fitting.Lts as lts
 
 cast-result : tie.Need-cast-result
 cast-result c = search needs

@@ -3,8 +3,6 @@ use borrow.Author.Tests.{eq-eqb, le-ltb, lt-ltb, ne-eqb}
 use Rattle.quick_step.specs.Step.{openingEnd}
 use Rattle.quick_step.proofs.opening_end.Statement.{statement}
 use Rattle.quick_step.proofs.opening_end.Tie as tie
-use Rattle.quick_step.proofs.opening_end.Reads as reads
-use Rattle.quick_step.proofs.opening_end.Lts as lts
 
 returns : tie.Need-returns
 unfolding openingEnd

@@ -4,11 +4,6 @@ use mathlib.Core.Bool.{and-false, or-false}
 use Rattle.quick_step.specs.Step.{stepOf}
 use Rattle.quick_step.proofs.quick_step.Statement.{statement}
 use Rattle.quick_step.proofs.quick_step.Tie as tie
-use Rattle.quick_step.proofs.quick_step.Reads as reads
-use Rattle.quick_step.proofs.quick_step.Lts as lts
-use Rattle.belongs.proofs.foreign.Reads as foreign-reads
-use Rattle.quick_step.proofs.no_step.Reads as no-step-reads
-use Rattle.quick_step.proofs.step_part.Reads as step-part-reads
 
 no-step-requires : tie.Need-no-step-requires
 no-step-requires c κs = search needs

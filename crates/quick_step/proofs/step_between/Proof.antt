@@ -4,11 +4,6 @@ use mathlib.Core.Bool.{and-false, or-false}
 use Rattle.quick_step.specs.Step.{stepBetween}
 use Rattle.quick_step.proofs.step_between.Statement.{statement}
 use Rattle.quick_step.proofs.step_between.Tie as tie
-use Rattle.quick_step.proofs.step_between.Reads as reads
-use Rattle.quick_step.proofs.step_between.Lts as lts
-use Rattle.quick_step.proofs.no_step.Reads as no-step-reads
-use Rattle.quick_step.proofs.step_frame.Reads as step-frame-reads
-use Rattle.quick_step.proofs.step_opening.Reads as step-opening-reads
 
 cast-opening : tie.Need-cast-opening
 cast-opening c = search needs

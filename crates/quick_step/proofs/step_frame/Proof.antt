@@ -6,11 +6,6 @@ use borrow.Author.Tests.{le-ltb, lt-ltb}
 use Rattle.quick_step.specs.Step.{stepFrame}
 use Rattle.quick_step.proofs.step_frame.Statement.{statement}
 use Rattle.quick_step.proofs.step_frame.Tie as tie
-use Rattle.quick_step.proofs.step_frame.Reads as reads
-use Rattle.quick_step.proofs.step_frame.Lts as lts
-use Rattle.big_endian.proofs.read_u16.Reads as read-u16-reads
-use Rattle.quick_step.proofs.no_step.Reads as no-step-reads
-use Rattle.quick_step.proofs.step_on.Reads as step-on-reads
 
 no-step-requires : tie.Need-no-step-requires
 no-step-requires c κs = search needs

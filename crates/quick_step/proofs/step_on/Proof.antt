@@ -4,11 +4,6 @@ use mathlib.Core.Bool.{and-false, or-false}
 use Rattle.quick_step.specs.Step.{stepOn}
 use Rattle.quick_step.proofs.step_on.Statement.{statement}
 use Rattle.quick_step.proofs.step_on.Tie as tie
-use Rattle.quick_step.proofs.step_on.Reads as reads
-use Rattle.quick_step.proofs.step_on.Lts as lts
-use Rattle.plain_writes.proofs.plain_behind.Reads as plain-behind-reads
-use Rattle.quick_step.proofs.fitting.Reads as fitting-reads
-use Rattle.quick_step.proofs.no_step.Reads as no-step-reads
 
 no-step-requires : tie.Need-no-step-requires
 no-step-requires c κs = search needs

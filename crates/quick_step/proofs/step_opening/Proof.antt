@@ -2,10 +2,6 @@ use borrow.Author.Needs.{needs}
 use Rattle.quick_step.specs.Step.{stepOpening}
 use Rattle.quick_step.proofs.step_opening.Statement.{statement}
 use Rattle.quick_step.proofs.step_opening.Tie as tie
-use Rattle.quick_step.proofs.step_opening.Reads as reads
-use Rattle.quick_step.proofs.step_opening.Lts as lts
-use Rattle.quick_step.proofs.opening_end.Reads as opening-end-reads
-use Rattle.quick_step.proofs.step_on.Reads as step-on-reads
 
 opening-end-requires : tie.Need-opening-end-requires
 opening-end-requires c κs = search needs

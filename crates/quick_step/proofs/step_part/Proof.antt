@@ -4,12 +4,6 @@ use mathlib.Core.Bool.{and-false, or-false}
 use Rattle.quick_step.specs.Step.{stepPart}
 use Rattle.quick_step.proofs.step_part.Statement.{statement}
 use Rattle.quick_step.proofs.step_part.Tie as tie
-use Rattle.quick_step.proofs.step_part.Reads as reads
-use Rattle.quick_step.proofs.step_part.Lts as lts
-use Rattle.quick_step.proofs.no_step.Reads as no-step-reads
-use Rattle.quick_step.proofs.step_between.Reads as step-between-reads
-use Rattle.quick_step.proofs.step_on.Reads as step-on-reads
-use Rattle.quick_step.proofs.step_opening.Reads as step-opening-reads
 
 step-between-requires : tie.Need-step-between-requires
 step-between-requires c κs = search needs
