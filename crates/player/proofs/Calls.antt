@@ -17,6 +17,9 @@ use Rattle.plan.specs.declared.call.CallPlan.{CallPlan}
 use Rattle.plan.specs.Told.{planTold}
 use Rattle.store.specs.Stored.{storedCall}
 use Rattle.store.proofs.Call.{stored-nothing, call-stored}
+use Rattle.empty_step.specs.declared.EmptyStep.{EmptyStep}
+use Rattle.empty_step.specs.Empty.{emptyOf, emptied}
+use Rattle.empty_step.proofs.Emptied.{empty-call}
 use Rattle.quick_step.specs.declared.Step.{Step}
 use Rattle.quick_step.specs.Step.{stepOf, stepped}
 use Rattle.quick_step.proofs.Stepped.{step-call}
@@ -93,3 +96,16 @@ step-told state file run step zs e taken wrote =
     let long = writes-long version file (step .count) (step .from) in
     let all = storable-all version file (length run) (plainly .end) (step .from) (step .count) (plainly .inside) (plainly .fit) (plainly .some) in
     (rw (is, long), rw is, rw is (wrote ∙ rw all))
+
+-- AN EMPTY FRAME
+
+abbrev pub emptyTold : Vsync
+emptyTold = record { number = 0; count = 0; complete = true }
+
+abbrev pub emptiedOn : StreamPlayer → EmptyStep → StreamPlayer
+emptiedOn state step = moved state (emptied (state .progress) step)
+
+pub empty-told : (state : StreamPlayer) (file : List ℕ) (run : List WriteRecord) (step : EmptyStep) → step ≡ emptyOf file (state .header) (state .cards .count) (state .progress) → step .taken ≡ true → (emptyTold ≡ vsyncOf (call state file (length run))) × (emptiedOn state step ≡ stateAfter state (call state file (length run))) × (run ≡ runAfter run (call state file (length run)))
+empty-told state file run step e taken =
+    let is = empty-call state file (length run) step e taken in
+    (rw is, rw is, rw is)

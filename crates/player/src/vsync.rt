@@ -1,4 +1,5 @@
 // One vsync call over the lent state, file and run. What the call does is decided by value, so that a refused call changes nothing.
+use empty_step::empty_step;
 use format::StreamPlayer;
 use format::WriteRecord;
 use plan::plan_call;
@@ -35,9 +36,8 @@ fn planned_vsync(state: &mut StreamPlayer, file: &[u8], run: &mut [WriteRecord])
     }
 }
 
-// As many of the vsync's remaining writes as the run holds go to its front. A call that takes nothing but plain WRITEs reads and
-// changes a few numbers of the state.
-pub fn advance_vsync(state: &mut StreamPlayer, file: &[u8], run: &mut [WriteRecord]) -> Vsync
+// The call of a vsync that has writes. One that takes nothing but plain WRITEs reads and changes a few numbers of the state.
+fn busy_vsync(state: &mut StreamPlayer, file: &[u8], run: &mut [WriteRecord]) -> Vsync
     ensures { λ r. ⌜ (r ≡ vsyncOf (call (now (state .entry)) (now (file .entry)) (length (now (run .entry)))))
         × (now (state .exit) ≡ stateAfter (now (state .entry)) (call (now (state .entry)) (now (file .entry)) (length (now (run .entry)))))
         × (now (run .exit) ≡ runAfter (now (run .entry)) (call (now (state .entry)) (now (file .entry)) (length (now (run .entry))))) ⌝ }
@@ -64,4 +64,26 @@ pub fn advance_vsync(state: &mut StreamPlayer, file: &[u8], run: &mut [WriteReco
         };
     }
     planned_vsync(state, file, run)
+}
+
+// As many of the vsync's remaining writes as the run holds go to its front. The call of an empty frame is answered at once.
+pub fn advance_vsync(state: &mut StreamPlayer, file: &[u8], run: &mut [WriteRecord]) -> Vsync
+    ensures { λ r. ⌜ (r ≡ vsyncOf (call (now (state .entry)) (now (file .entry)) (length (now (run .entry)))))
+        × (now (state .exit) ≡ stateAfter (now (state .entry)) (call (now (state .entry)) (now (file .entry)) (length (now (run .entry)))))
+        × (now (run .exit) ≡ runAfter (now (run .entry)) (call (now (state .entry)) (now (file .entry)) (length (now (run .entry))))) ⌝ }
+{
+    let seen = *state;
+    let step = empty_step(file, seen.header, seen.cards.count, seen.progress);
+    if step.taken {
+        state.progress.cursor = step.cursor;
+        state.progress.operation_index = 0;
+        state.progress.operation_count = 0;
+        state.progress.frame_index = step.frame_index;
+        return Vsync {
+            number: 0,
+            count: 0,
+            complete: true,
+        };
+    }
+    busy_vsync(state, file, run)
 }

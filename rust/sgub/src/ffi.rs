@@ -171,6 +171,7 @@ pub fn start(file: &[u8]) -> Started {
     unsafe { sgub_start(file.as_ptr(), file.len()) }
 }
 
+#[inline]
 pub fn advance_vsync(player: &mut Player, file: &[u8], run: &mut [WriteRecord]) -> Vsync {
     // SAFETY: pointer and length of one slice each, and a pointer to one player, all lent for the call.
     unsafe {

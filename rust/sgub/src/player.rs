@@ -85,6 +85,7 @@ impl StreamPlayer {
     /// # Errors
     ///
     /// The file is not the player's. With the player's own file this never happens, and a finished player takes any file.
+    #[inline]
     pub fn advance_vsync(
         &mut self,
         file: &[u8],
