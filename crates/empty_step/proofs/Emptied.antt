@@ -18,7 +18,7 @@ use Rattle.format.proofs.Checks.{cond-true, cond-false}
 use Rattle.belongs.specs.Foreign.{foreignTo}
 use Rattle.belongs.proofs.Belongs.{foreign-is}
 use Rattle.empty_step.specs.declared.EmptyStep.{EmptyStep}
-use Rattle.empty_step.specs.Empty.{betweenFrames, noEmpty, emptyOf, emptied}
+use Rattle.empty_step.specs.Empty.{behindFrame, noEmpty, emptyOf, emptied}
 
 -- what holds where a call begins a frame
 record Begins (header : Header) (p : Progress) : Type 0 where
@@ -28,16 +28,15 @@ record Begins (header : Header) (p : Progress) : Type 0 where
   pub none : p .«write_index» ≡ 0
   pub more : ltb (p .«frame_index») (header .«frame_count») ≡ true
 
-begins : (header : Header) (p : Progress) → betweenFrames p ≡ true → ltb (p .«frame_index») (header .«frame_count») ≡ true → Begins header p
-unfolding betweenFrames
-begins header p e more = go (eqb (p .part) (partNumber Between)) refl (p .initialized) refl (p .finished) refl (eqb (p .«write_index») 0) refl e
+begins : (header : Header) (p : Progress) → p .part ≡ partNumber Between → behindFrame p ≡ true → ltb (p .«frame_index») (header .«frame_count») ≡ true → Begins header p
+unfolding behindFrame
+begins header p between e more = go (p .initialized) refl (p .finished) refl (eqb (p .«write_index») 0) refl e
   where
-    go : (a : Bool) → eqb (p .part) (partNumber Between) ≡ a → (b : Bool) → p .initialized ≡ b → (c : Bool) → p .finished ≡ c → (d : Bool) → eqb (p .«write_index») 0 ≡ d → cond (not a) false (cond (not b) false (cond c false (cond (not d) false true))) ≡ true → Begins header p
-    go true a true b false c true d h = record { between = eqb-true _ _ a; on = b; going = c; none = eqb-true _ _ d; more = more }
-    go true a true b false c false d h = absurd (false≢true h)
-    go true a true b true c d k h = absurd (false≢true h)
-    go true a false b c k d l h = absurd (false≢true h)
-    go false a b k c l d m h = absurd (false≢true h)
+    go : (b : Bool) → p .initialized ≡ b → (c : Bool) → p .finished ≡ c → (d : Bool) → eqb (p .«write_index») 0 ≡ d → cond (not b) false (cond c false (cond (not d) false true)) ≡ true → Begins header p
+    go true b false c true d h = record { between = between; on = b; going = c; none = eqb-true _ _ d; more = more }
+    go true b false c false d h = absurd (false≢true h)
+    go true b true c d k h = absurd (false≢true h)
+    go false b c k d l h = absurd (false≢true h)
 
 module _ (state : StreamPlayer) (file : List ℕ) (room : ℕ) (step : EmptyStep) where
   abbrev p : Progress
@@ -47,7 +46,7 @@ module _ (state : StreamPlayer) (file : List ℕ) (room : ℕ) (step : EmptyStep
   abbrev pub answer : Played
   answer = record { records = []; complete = true; next = moved state (emptied p step) }
 
-  frame-empty : Begins (state .header) p → ltb (length file) (p .cursor + 2) ≡ false → be 2 file (p .cursor) ≡ 0 → step ≡ record { taken = true; cursor = p .cursor + 2; «frame_index» = p .«frame_index» + 1 } → (frameBegun file (p .cursor) (p .«frame_index») p >>= playFrame state file room) ≡ ok answer
+  frame-empty : Begins (state .header) p → ltb (length file) (p .cursor + 2) ≡ false → be 2 file (p .cursor) ≡ 0 → step ≡ record { «under_way» = false; taken = true; cursor = p .cursor + 2; «frame_index» = p .«frame_index» + 1 } → (frameBegun file (p .cursor) (p .«frame_index») p >>= playFrame state file room) ≡ ok answer
   unfolding frameBegun playFrame gathered
   frame-empty b inside empty e = rw (inside, empty, e, b .between, b .on, b .going, b .none)
 
@@ -57,15 +56,16 @@ module _ (state : StreamPlayer) (file : List ℕ) (room : ℕ) (step : EmptyStep
 
   pub empty-call : step ≡ emptyOf file (state .header) (state .cards .count) p → step .taken ≡ true → call state file room ≡ ok answer
   unfolding emptyOf call
-  empty-call e taken = go (betweenFrames p) refl (leb (state .header .«frame_count») (p .«frame_index»)) refl (foreignTo (length file) (state .header) (state .cards .count) p) refl (ltb (length file) (p .cursor + 2)) refl (eqb (be 2 file (p .cursor)) 0) refl e
+  empty-call e taken = go (eqb (p .part) (partNumber Between)) refl (behindFrame p) refl (leb (state .header .«frame_count») (p .«frame_index»)) refl (foreignTo (length file) (state .header) (state .cards .count) p) refl (ltb (length file) (p .cursor + 2)) refl (eqb (be 2 file (p .cursor)) 0) refl e
     where
-      go : (a : Bool) → betweenFrames p ≡ a → (l : Bool) → leb (state .header .«frame_count») (p .«frame_index») ≡ l → (f : Bool) → foreignTo (length file) (state .header) (state .cards .count) p ≡ f → (c : Bool) → ltb (length file) (p .cursor + 2) ≡ c → (d : Bool) → eqb (be 2 file (p .cursor)) 0 ≡ d → step ≡ cond (not a) noEmpty (cond l noEmpty (cond f noEmpty (cond c noEmpty (cond (not d) noEmpty (record { taken = true; cursor = p .cursor + 2; «frame_index» = p .«frame_index» + 1 }))))) → cond (p .finished) (ok (record { records = []; complete = true; next = state })) (as25 (belongs state file >> play state file room p (partOf (p .part)))) ≡ ok answer
-      go true a false l false f false c true d h =
-          let b = begins (state .header) p a (lt-ltb (p .«frame_index») (state .header .«frame_count») (leb-false (state .header .«frame_count») (p .«frame_index») l)) in
+      go : (n : Bool) → eqb (p .part) (partNumber Between) ≡ n → (a : Bool) → behindFrame p ≡ a → (l : Bool) → leb (state .header .«frame_count») (p .«frame_index») ≡ l → (f : Bool) → foreignTo (length file) (state .header) (state .cards .count) p ≡ f → (c : Bool) → ltb (length file) (p .cursor + 2) ≡ c → (d : Bool) → eqb (be 2 file (p .cursor)) 0 ≡ d → step ≡ cond (not n) (noEmpty true) (cond (not a) (noEmpty false) (cond l (noEmpty false) (cond f (noEmpty false) (cond c (noEmpty false) (cond (not d) (noEmpty false) (record { «under_way» = false; taken = true; cursor = p .cursor + 2; «frame_index» = p .«frame_index» + 1 })))))) → cond (p .finished) (ok (record { records = []; complete = true; next = state })) (as25 (belongs state file >> play state file room p (partOf (p .part)))) ≡ ok answer
+      go true n true a false l false f false c true d h =
+          let b = begins (state .header) p (eqb-true _ _ n) a (lt-ltb (p .«frame_index») (state .header .«frame_count») (leb-false (state .header .«frame_count») (p .«frame_index») l)) in
           let own : belongs state file ≡ ok tt = sym (foreign-is state file) ∙ ap (refuse 25 0) f in
           cond-false (p .finished) _ _ (b .going) ∙ ap as25 (ap (λ (x : Checked (Unit {0})). x >> play state file room p (partOf (p .part))) own ∙ plays b (frame-empty b c (eqb-true _ _ d) h))
-      go true a false l false f false c false d h = absurd (false≢true (rw h at taken))
-      go true a false l false f true c d k h = absurd (false≢true (rw h at taken))
-      go true a false l true f c k d m h = absurd (false≢true (rw h at taken))
-      go true a true l f k c m d n h = absurd (false≢true (rw h at taken))
-      go false a l k f m c n d o h = absurd (false≢true (rw h at taken))
+      go true n true a false l false f false c false d h = absurd (false≢true (rw h at taken))
+      go true n true a false l false f true c d k h = absurd (false≢true (rw h at taken))
+      go true n true a false l true f c k d m h = absurd (false≢true (rw h at taken))
+      go true n true a true l f k c m d o h = absurd (false≢true (rw h at taken))
+      go true n false a l k f m c o d q h = absurd (false≢true (rw h at taken))
+      go false n a j l k f m c o d q h = absurd (false≢true (rw h at taken))

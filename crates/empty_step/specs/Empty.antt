@@ -12,27 +12,27 @@ use Rattle.format.specs.State.{partNumber}
 use Rattle.belongs.specs.Foreign.{foreignTo}
 use Rattle.empty_step.specs.declared.EmptyStep.{EmptyStep}
 
--- a state that a complete vsync leaves
-unfoldable pub betweenFrames : Progress → Bool
-betweenFrames p =
-    cond (not (eqb (p .part) (partNumber Between))) false
-    (cond (not (p .initialized)) false
+-- a state between vsyncs that a complete vsync leaves
+unfoldable pub behindFrame : Progress → Bool
+behindFrame p =
+    cond (not (p .initialized)) false
     (cond (p .finished) false
-    (cond (not (eqb (p .«write_index») 0)) false true)))
+    (cond (not (eqb (p .«write_index») 0)) false true))
 
--- the call is not taken
-abbrev pub noEmpty : EmptyStep
-noEmpty = record { taken = false; cursor = 0; «frame_index» = 0 }
+-- the call is not taken; a vsync may be under way
+abbrev pub noEmpty : (under : Bool) → EmptyStep
+noEmpty under = record { «under_way» = under; taken = false; cursor = 0; «frame_index» = 0 }
 
 -- the call of a state with so many cards
 unfoldable pub emptyOf : List ℕ → Header → (cards : ℕ) → Progress → EmptyStep
 emptyOf file header cards p =
-    cond (not (betweenFrames p)) noEmpty
-    (cond (leb (header .«frame_count») (p .«frame_index»)) noEmpty
-    (cond (foreignTo (length file) header cards p) noEmpty
-    (cond (ltb (length file) (p .cursor + 2)) noEmpty
-    (cond (not (eqb (be 2 file (p .cursor)) 0)) noEmpty
-    (record { taken = true; cursor = p .cursor + 2; «frame_index» = p .«frame_index» + 1 })))))
+    cond (not (eqb (p .part) (partNumber Between))) (noEmpty true)
+    (cond (not (behindFrame p)) (noEmpty false)
+    (cond (leb (header .«frame_count») (p .«frame_index»)) (noEmpty false)
+    (cond (foreignTo (length file) header cards p) (noEmpty false)
+    (cond (ltb (length file) (p .cursor + 2)) (noEmpty false)
+    (cond (not (eqb (be 2 file (p .cursor)) 0)) (noEmpty false)
+    (record { «under_way» = false; taken = true; cursor = p .cursor + 2; «frame_index» = p .«frame_index» + 1 }))))))
 
 -- the progress behind a call that is taken
 abbrev pub emptied : Progress → EmptyStep → Progress

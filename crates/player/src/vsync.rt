@@ -66,7 +66,9 @@ fn busy_vsync(state: &mut StreamPlayer, file: &[u8], run: &mut [WriteRecord]) ->
     planned_vsync(state, file, run)
 }
 
-// As many of the vsync's remaining writes as the run holds go to its front. The call of an empty frame is answered at once.
+// As many of the vsync's remaining writes as the run holds go to its front. The call of an empty frame is answered at once: because
+// `busy_vsync` is called at two places, the compiler keeps it out of line, and because its answer has a name, the answer of an
+// empty frame does not go through memory.
 pub fn advance_vsync(state: &mut StreamPlayer, file: &[u8], run: &mut [WriteRecord]) -> Vsync
     ensures { λ r. ⌜ (r ≡ vsyncOf (call (now (state .entry)) (now (file .entry)) (length (now (run .entry)))))
         × (now (state .exit) ≡ stateAfter (now (state .entry)) (call (now (state .entry)) (now (file .entry)) (length (now (run .entry)))))
@@ -74,6 +76,10 @@ pub fn advance_vsync(state: &mut StreamPlayer, file: &[u8], run: &mut [WriteReco
 {
     let seen = *state;
     let step = empty_step(file, seen.header, seen.cards.count, seen.progress);
+    if step.under_way {
+        let going = busy_vsync(state, file, run);
+        return going;
+    }
     if step.taken {
         state.progress.cursor = step.cursor;
         state.progress.operation_index = 0;
@@ -85,5 +91,6 @@ pub fn advance_vsync(state: &mut StreamPlayer, file: &[u8], run: &mut [WriteReco
             complete: true,
         };
     }
-    busy_vsync(state, file, run)
+    let begun = busy_vsync(state, file, run);
+    begun
 }

@@ -1,6 +1,6 @@
 -- `advance_vsync` meets its contract: a walk of its MIR, by hand. The state's borrow is opened and the whole state is read; the covered `empty_step` says whether
--- the call is that of an empty frame. If it is, four fields of the state are written, the borrow is closed at the state that they make, and the run is given back as it was; else
--- the borrow is closed at the state as it was, and `busy_vsync` gets state and run for good. All that the proof knows of the callees is that each meets its contract.
+-- the call goes on with a vsync, or is that of an empty frame. If it is the latter, four fields of the state are written, the borrow is closed at the state that they make, and the
+-- run is given back as it was; else the borrow is closed at the state as it was, and `busy_vsync` gets state and run for good. All that the proof knows of the callees is that each meets its contract.
 use mathlib.Core.Path.{_≡_, refl, ap, subst}
 use Prim.Native.Nat.{ℕ, _<_, _^_}
 use native.Mathlib.Omega.{arith}
@@ -204,7 +204,7 @@ module _ {M : Type 1} (𝓤 : URA M) (H : Heap 𝓤) (A : Atoms 𝓤) (W : Given
       progress-is =
           let old = LL.owed G.the-type G′.the-laws (h .progress) _ (LL.owed P.the-type P′.the-laws h _ was .1 .1 .1 .0) in
           let new = LL.owed Q.the-type Q′.the-laws r _ is in
-          LL.owes G.the-type G′.the-laws (emptiedOn h r .progress) (old .0, (new .1 .0, ((refl, lit< tt), ((refl, lit< tt), (old .1 .1 .1 .1 .0, (new .1 .1 .0, (old .1 .1 .1 .1 .1 .1 .0, (old .1 .1 .1 .1 .1 .1 .1 .0, (old .1 .1 .1 .1 .1 .1 .1 .1 .0, tt)))))))))
+          LL.owes G.the-type G′.the-laws (emptiedOn h r .progress) (old .0, (new .1 .1 .0, ((refl, lit< tt), ((refl, lit< tt), (old .1 .1 .1 .1 .0, (new .1 .1 .1 .0, (old .1 .1 .1 .1 .1 .1 .0, (old .1 .1 .1 .1 .1 .1 .1 .0, (old .1 .1 .1 .1 .1 .1 .1 .1 .0, tt)))))))))
 
       next-is : Is P.the-row (emptiedOn h r) (LL.vals P.the-type P′.the-laws (emptiedOn h r))
       next-is = LL.owes P.the-type P′.the-laws (emptiedOn h r) (LL.owed P.the-type P′.the-laws h _ was .0, (LL.owed P.the-type P′.the-laws h _ was .1 .0, (LL.owed P.the-type P′.the-laws h _ was .1 .1 .0, (progress-is, tt))))
@@ -223,93 +223,124 @@ module _ {M : Type 1} (𝓤 : URA M) (H : Heap 𝓤) (A : Atoms 𝓤) (W : Given
       nothing ! $ move ! (2 ∷ 0 ∷ []) $ fjoin ! $ move ! (1 ∷ 0 ∷ []) $ fjoin ! $ move ! (1 ∷ 0 ∷ []) $ fjoin ! $ nothing ! $ move ! (2 ∷ 0 ∷ []) $ join ! $ move ! (3 ∷ 0 ∷ []) $ join ! $ move ! (2 ∷ 0 ∷ []) $ join ! $ nothing ! $ move ! (1 ∷ 2 ∷ 0 ∷ []) $ join ! $ join ! $ done !
 
   module _ (C : Calls 𝓤 H) (Λ : Loops 𝓤 H) (fm : FmC 𝓤 H (W .laws) C) (known-step : Triple 𝓤 (C #empty-step) (Decides 𝓤 H A at-mem run)) (known : Triple 𝓤 (C #player·busy-vsync) (Advances 𝓤 H A at-mem run)) where
-    module _ (l₀ l₁ l₂ l₃ l₄ l₅ l₆ l₇ l₈ l₉ : ℕ) where
+    module _ (l₀ l₁ l₂ l₃ l₄ l₅ l₆ l₇ l₈ l₉ l₁₀ l₁₁ l₁₂ l₁₃ l₁₄ : ℕ) where
       abbrev En : Env 𝓤 H
-      En = (Y′.mir, l₀) ∷ (ref, l₁) ∷ (bytes, l₂) ∷ (slice, l₃) ∷ (P′.mir, l₄) ∷ (Q′.mir, l₅) ∷ (tyBool, l₆) ∷ (pref, l₇) ∷ (eref, l₈) ∷ (eslice, l₉) ∷ []
+      En = (Y′.mir, l₀) ∷ (ref, l₁) ∷ (bytes, l₂) ∷ (slice, l₃) ∷ (P′.mir, l₄) ∷ (Q′.mir, l₅) ∷ (Y′.mir, l₆) ∷ (Y′.mir, l₇) ∷ (tyBool, l₈) ∷ (pref, l₉) ∷ (eref, l₁₀) ∷ (eslice, l₁₁) ∷ (pref, l₁₂) ∷ (eref, l₁₃) ∷ (eslice, l₁₄) ∷ []
 
       abbrev Entered : List (Item 𝓤)
       Entered = ‵ (cellAt fullShare (P.the-row .mir) (LL.vals P.the-type P′.the-laws h) b o) ∷ ‵ (fobor κ q (Body (mem P.the-row) b o γ)) ∷ ‵ (fobs γ (P.the-row .coded .code h)) ∷ ‵ (fauth γ (P.the-row .coded .code h)) ∷ ‵ (flft κ₂ q₂) ∷ ‵ (flft κ₃ q₃) ∷ ‵ Run ∷ ‵ File
-          ∷ ‵ (froom eslice l₉ 0) ∷ ‵ (fdies eslice l₉) ∷ ‵ (froom eref l₈ 0) ∷ ‵ (fdies eref l₈) ∷ ‵ (froom pref l₇ 0) ∷ ‵ (fdies pref l₇) ∷ ‵ (froom tyBool l₆ 0) ∷ ‵ (fdies tyBool l₆) ∷ ‵ (froom Q′.mir l₅ 0) ∷ ‵ (fdies Q′.mir l₅) ∷ ‵ (froom P′.mir l₄ 0) ∷ ‵ (fdies P′.mir l₄) ∷ ‵ (fat fullShare slice l₃ 0 s₃) ∷ ‵ (fdies slice l₃) ∷ ‵ (fat fullShare bytes l₂ 0 s₂) ∷ ‵ (fdies bytes l₂) ∷ ‵ (fat fullShare ref l₁ 0 (vptr b o)) ∷ ‵ (fdies ref l₁) ∷ ‵ (froom Y′.mir l₀ 0) ∷ ‵ (fdies Y′.mir l₀) ∷ []
+          ∷ ‵ (froom eslice l₁₄ 0) ∷ ‵ (fdies eslice l₁₄) ∷ ‵ (froom eref l₁₃ 0) ∷ ‵ (fdies eref l₁₃) ∷ ‵ (froom pref l₁₂ 0) ∷ ‵ (fdies pref l₁₂) ∷ ‵ (froom eslice l₁₁ 0) ∷ ‵ (fdies eslice l₁₁) ∷ ‵ (froom eref l₁₀ 0) ∷ ‵ (fdies eref l₁₀) ∷ ‵ (froom pref l₉ 0) ∷ ‵ (fdies pref l₉) ∷ ‵ (froom tyBool l₈ 0) ∷ ‵ (fdies tyBool l₈) ∷ ‵ (froom Y′.mir l₇ 0) ∷ ‵ (fdies Y′.mir l₇) ∷ ‵ (froom Y′.mir l₆ 0) ∷ ‵ (fdies Y′.mir l₆) ∷ ‵ (froom Q′.mir l₅ 0) ∷ ‵ (fdies Q′.mir l₅) ∷ ‵ (froom P′.mir l₄ 0) ∷ ‵ (fdies P′.mir l₄) ∷ ‵ (fat fullShare slice l₃ 0 s₃) ∷ ‵ (fdies slice l₃) ∷ ‵ (fat fullShare bytes l₂ 0 s₂) ∷ ‵ (fdies bytes l₂) ∷ ‵ (fat fullShare ref l₁ 0 (vptr b o)) ∷ ‵ (fdies ref l₁) ∷ ‵ (froom Y′.mir l₀ 0) ∷ ‵ (fdies Y′.mir l₀) ∷ []
 
-      -- with the step; and with its test made
+      -- with the step; and with a test made
       abbrev Decided : EmptyStep → List (Item 𝓤)
       Decided r = ‵ (cellAt fullShare (P.the-row .mir) (LL.vals P.the-type P′.the-laws h) b o) ∷ ‵ (fobor κ q (Body (mem P.the-row) b o γ)) ∷ ‵ (fobs γ (P.the-row .coded .code h)) ∷ ‵ (fauth γ (P.the-row .coded .code h)) ∷ ‵ (flft κ₂ q₂) ∷ ‵ (flft κ₃ q₃) ∷ ‵ Run ∷ ‵ File
-          ∷ ‵ (froom eslice l₉ 0) ∷ ‵ (fdies eslice l₉) ∷ ‵ (froom eref l₈ 0) ∷ ‵ (fdies eref l₈) ∷ ‵ (froom pref l₇ 0) ∷ ‵ (fdies pref l₇) ∷ ‵ (froom tyBool l₆ 0) ∷ ‵ (fdies tyBool l₆) ∷ ‵ (fat fullShare Q′.mir l₅ 0 (LL.val Q.the-type Q′.the-laws r)) ∷ ‵ (fdies Q′.mir l₅) ∷ ‵ (fat fullShare P′.mir l₄ 0 (LL.val P.the-type P′.the-laws h)) ∷ ‵ (fdies P′.mir l₄) ∷ ‵ (fat fullShare slice l₃ 0 s₃) ∷ ‵ (fdies slice l₃) ∷ ‵ (fat fullShare bytes l₂ 0 s₂) ∷ ‵ (fdies bytes l₂) ∷ ‵ (fat fullShare ref l₁ 0 (vptr b o)) ∷ ‵ (fdies ref l₁) ∷ ‵ (froom Y′.mir l₀ 0) ∷ ‵ (fdies Y′.mir l₀) ∷ []
+          ∷ ‵ (froom eslice l₁₄ 0) ∷ ‵ (fdies eslice l₁₄) ∷ ‵ (froom eref l₁₃ 0) ∷ ‵ (fdies eref l₁₃) ∷ ‵ (froom pref l₁₂ 0) ∷ ‵ (fdies pref l₁₂) ∷ ‵ (froom eslice l₁₁ 0) ∷ ‵ (fdies eslice l₁₁) ∷ ‵ (froom eref l₁₀ 0) ∷ ‵ (fdies eref l₁₀) ∷ ‵ (froom pref l₉ 0) ∷ ‵ (fdies pref l₉) ∷ ‵ (froom tyBool l₈ 0) ∷ ‵ (fdies tyBool l₈) ∷ ‵ (froom Y′.mir l₇ 0) ∷ ‵ (fdies Y′.mir l₇) ∷ ‵ (froom Y′.mir l₆ 0) ∷ ‵ (fdies Y′.mir l₆) ∷ ‵ (fat fullShare Q′.mir l₅ 0 (LL.val Q.the-type Q′.the-laws r)) ∷ ‵ (fdies Q′.mir l₅) ∷ ‵ (fat fullShare P′.mir l₄ 0 (LL.val P.the-type P′.the-laws h)) ∷ ‵ (fdies P′.mir l₄) ∷ ‵ (fat fullShare slice l₃ 0 s₃) ∷ ‵ (fdies slice l₃) ∷ ‵ (fat fullShare bytes l₂ 0 s₂) ∷ ‵ (fdies bytes l₂) ∷ ‵ (fat fullShare ref l₁ 0 (vptr b o)) ∷ ‵ (fdies ref l₁) ∷ ‵ (froom Y′.mir l₀ 0) ∷ ‵ (fdies Y′.mir l₀) ∷ []
 
-      abbrev Tested : EmptyStep → List (Item 𝓤)
-      Tested r = ‵ (cellAt fullShare (P.the-row .mir) (LL.vals P.the-type P′.the-laws h) b o) ∷ ‵ (fobor κ q (Body (mem P.the-row) b o γ)) ∷ ‵ (fobs γ (P.the-row .coded .code h)) ∷ ‵ (fauth γ (P.the-row .coded .code h)) ∷ ‵ (flft κ₂ q₂) ∷ ‵ (flft κ₃ q₃) ∷ ‵ Run ∷ ‵ File
-          ∷ ‵ (froom eslice l₉ 0) ∷ ‵ (fdies eslice l₉) ∷ ‵ (froom eref l₈ 0) ∷ ‵ (fdies eref l₈) ∷ ‵ (froom pref l₇ 0) ∷ ‵ (fdies pref l₇) ∷ ‵ (fat fullShare tyBool l₆ 0 (vbool (r .taken))) ∷ ‵ (fdies tyBool l₆) ∷ ‵ (fat fullShare Q′.mir l₅ 0 (LL.val Q.the-type Q′.the-laws r)) ∷ ‵ (fdies Q′.mir l₅) ∷ ‵ (fat fullShare P′.mir l₄ 0 (LL.val P.the-type P′.the-laws h)) ∷ ‵ (fdies P′.mir l₄) ∷ ‵ (fat fullShare slice l₃ 0 s₃) ∷ ‵ (fdies slice l₃) ∷ ‵ (fat fullShare bytes l₂ 0 s₂) ∷ ‵ (fdies bytes l₂) ∷ ‵ (fat fullShare ref l₁ 0 (vptr b o)) ∷ ‵ (fdies ref l₁) ∷ ‵ (froom Y′.mir l₀ 0) ∷ ‵ (fdies Y′.mir l₀) ∷ []
+      abbrev Tested : EmptyStep → Bool → List (Item 𝓤)
+      Tested r test = ‵ (cellAt fullShare (P.the-row .mir) (LL.vals P.the-type P′.the-laws h) b o) ∷ ‵ (fobor κ q (Body (mem P.the-row) b o γ)) ∷ ‵ (fobs γ (P.the-row .coded .code h)) ∷ ‵ (fauth γ (P.the-row .coded .code h)) ∷ ‵ (flft κ₂ q₂) ∷ ‵ (flft κ₃ q₃) ∷ ‵ Run ∷ ‵ File
+          ∷ ‵ (froom eslice l₁₄ 0) ∷ ‵ (fdies eslice l₁₄) ∷ ‵ (froom eref l₁₃ 0) ∷ ‵ (fdies eref l₁₃) ∷ ‵ (froom pref l₁₂ 0) ∷ ‵ (fdies pref l₁₂) ∷ ‵ (froom eslice l₁₁ 0) ∷ ‵ (fdies eslice l₁₁) ∷ ‵ (froom eref l₁₀ 0) ∷ ‵ (fdies eref l₁₀) ∷ ‵ (froom pref l₉ 0) ∷ ‵ (fdies pref l₉) ∷ ‵ (fat fullShare tyBool l₈ 0 (vbool test)) ∷ ‵ (fdies tyBool l₈) ∷ ‵ (froom Y′.mir l₇ 0) ∷ ‵ (fdies Y′.mir l₇) ∷ ‵ (froom Y′.mir l₆ 0) ∷ ‵ (fdies Y′.mir l₆) ∷ ‵ (fat fullShare Q′.mir l₅ 0 (LL.val Q.the-type Q′.the-laws r)) ∷ ‵ (fdies Q′.mir l₅) ∷ ‵ (fat fullShare P′.mir l₄ 0 (LL.val P.the-type P′.the-laws h)) ∷ ‵ (fdies P′.mir l₄) ∷ ‵ (fat fullShare slice l₃ 0 s₃) ∷ ‵ (fdies slice l₃) ∷ ‵ (fat fullShare bytes l₂ 0 s₂) ∷ ‵ (fdies bytes l₂) ∷ ‵ (fat fullShare ref l₁ 0 (vptr b o)) ∷ ‵ (fdies ref l₁) ∷ ‵ (froom Y′.mir l₀ 0) ∷ ‵ (fdies Y′.mir l₀) ∷ []
 
       -- the fields are written, and the function returns
-      ends : (r : EmptyStep) → Stepped r → r .taken ≡ true → (was : Is P.the-row h (LL.vals P.the-type P′.the-laws h)) → (is : Is Q.the-row r (LL.vals Q.the-type Q′.the-laws r)) → (z : After 𝓤 H) → post 𝓤 H z returnsᴼ ≡ atReturn 𝓤 H En Post returnsᴼ → Sq W (Tested r) (runs C Λ En (then-of (head-of code.Mir.t-4)) z)
+      ends : (r : EmptyStep) → Stepped r → r .taken ≡ true → (was : Is P.the-row h (LL.vals P.the-type P′.the-laws h)) → (is : Is Q.the-row r (LL.vals Q.the-type Q′.the-laws r)) → (z : After 𝓤 H) → post 𝓤 H z returnsᴼ ≡ atReturn 𝓤 H En Post returnsᴼ → Sq W (Tested r (r .taken)) (runs C Λ En (then-of (head-of code.Mir.t-6)) z)
       ends r e taken was is z at-end =
-          assigns ! (of-opd ! (load ! (from ! (fld ! refl (stop !))) (look-in ! 16 (sub ! 1 refl (whole !))))) (from ! (hop ! (look ! 24 refl) (fld ! refl (fld ! refl (stop !))))) (store-in ! 0 (sub ! 1 refl (sub ! 3 refl (whole !))) (tt, record { fits = LL.owed Q.the-type Q′.the-laws r _ is .1 .0 .1 })) $
-          assigns ! (of-opd ! (lit ! tt)) (from ! (hop ! (look ! 24 refl) (fld ! refl (fld ! refl (stop !))))) (store-in ! 0 (sub ! 2 refl (sub ! 3 refl (whole !))) (tt, record { fits = lit< tt })) $
-          assigns ! (of-opd ! (lit ! tt)) (from ! (hop ! (look ! 24 refl) (fld ! refl (fld ! refl (stop !))))) (store-in ! 0 (sub ! 3 refl (sub ! 3 refl (whole !))) (tt, record { fits = lit< tt })) $
-          assigns ! (of-opd ! (load ! (from ! (fld ! refl (stop !))) (look-in ! 16 (sub ! 2 refl (whole !))))) (from ! (hop ! (look ! 24 refl) (fld ! refl (fld ! refl (stop !))))) (store-in ! 0 (sub ! 5 refl (sub ! 3 refl (whole !))) (tt, record { fits = LL.owed Q.the-type Q′.the-laws r _ is .1 .1 .0 .1 })) $
-          assigns ! (agg ! (and-then ! (lit ! tt) (and-then ! (lit ! tt) (and-then ! (true-lit !) (no-more !))))) (from ! (stop !)) (init ! 26 refl (LL.lawful Y.the-type Y′.the-laws 𝓤 H A W .typed emptyTold _ (told-is was r is) .0)) $
+          assigns ! (of-opd ! (load ! (from ! (fld ! refl (stop !))) (look-in ! 26 (sub ! 2 refl (whole !))))) (from ! (hop ! (look ! 34 refl) (fld ! refl (fld ! refl (stop !))))) (store-in ! 0 (sub ! 1 refl (sub ! 3 refl (whole !))) (tt, record { fits = LL.owed Q.the-type Q′.the-laws r _ is .1 .1 .0 .1 })) $
+          assigns ! (of-opd ! (lit ! tt)) (from ! (hop ! (look ! 34 refl) (fld ! refl (fld ! refl (stop !))))) (store-in ! 0 (sub ! 2 refl (sub ! 3 refl (whole !))) (tt, record { fits = lit< tt })) $
+          assigns ! (of-opd ! (lit ! tt)) (from ! (hop ! (look ! 34 refl) (fld ! refl (fld ! refl (stop !))))) (store-in ! 0 (sub ! 3 refl (sub ! 3 refl (whole !))) (tt, record { fits = lit< tt })) $
+          assigns ! (of-opd ! (load ! (from ! (fld ! refl (stop !))) (look-in ! 26 (sub ! 3 refl (whole !))))) (from ! (hop ! (look ! 34 refl) (fld ! refl (fld ! refl (stop !))))) (store-in ! 0 (sub ! 5 refl (sub ! 3 refl (whole !))) (tt, record { fits = LL.owed Q.the-type Q′.the-laws r _ is .1 .1 .1 .0 .1 })) $
+          assigns ! (agg ! (and-then ! (lit ! tt) (and-then ! (lit ! tt) (and-then ! (true-lit !) (no-more !))))) (from ! (stop !)) (init ! 36 refl (LL.lawful Y.the-type Y′.the-laws 𝓤 H A W .typed emptyTold _ (told-is was r is) .0)) $
           owned ! P.the-row (Is P.the-row) ((LL.makes P.the-type P′.the-plain) 𝓤 H A) (emptiedOn h r) _ (next-is was r is) $ move ! (1 ∷ 0 ∷ []) $ closes ! tt P.the-row (emptiedOn h r) (LL.vals P.the-type P′.the-laws (emptiedOn h r)) b o $
           -- [obs; the borrow; the state's token; file's token; run's token; run; file; the locals]
-          returns-within ! Post at-end (look ! 25 refl) $ forget ! 25 refl $ forget ! 23 refl $ forget ! 21 refl $ forget ! 19 refl $ forget ! 17 refl $ forget ! 15 refl $ forget ! 13 refl $ move ! (25 ∷ 26 ∷ []) $ free1 ! $ move ! (23 ∷ 24 ∷ []) $ free1 ! $ move ! (21 ∷ 22 ∷ []) $ free1 ! $ move ! (19 ∷ 20 ∷ []) $ free1 ! $ move ! (17 ∷ 18 ∷ []) $ free1 ! $ move ! (15 ∷ 16 ∷ []) $ free1 ! $ move ! (13 ∷ 14 ∷ []) $ free1 ! $ move ! (11 ∷ 12 ∷ []) $ free1 ! $ move ! (9 ∷ 10 ∷ []) $ free1 ! $ move ! (7 ∷ 8 ∷ []) $ free1 ! $ free0 ! $
+          returns-within ! Post at-end (look ! 35 refl) $ forget ! 35 refl $ forget ! 33 refl $ forget ! 31 refl $ forget ! 29 refl $ forget ! 27 refl $ forget ! 25 refl $ forget ! 19 refl $ move ! (35 ∷ 36 ∷ []) $ free1 ! $ move ! (33 ∷ 34 ∷ []) $ free1 ! $ move ! (31 ∷ 32 ∷ []) $ free1 ! $ move ! (29 ∷ 30 ∷ []) $ free1 ! $ move ! (27 ∷ 28 ∷ []) $ free1 ! $ move ! (25 ∷ 26 ∷ []) $ free1 ! $ move ! (23 ∷ 24 ∷ []) $ free1 ! $ move ! (21 ∷ 22 ∷ []) $ free1 ! $ move ! (19 ∷ 20 ∷ []) $ free1 ! $ move ! (17 ∷ 18 ∷ []) $ free1 ! $ move ! (15 ∷ 16 ∷ []) $ free1 ! $ move ! (13 ∷ 14 ∷ []) $ free1 ! $ move ! (11 ∷ 12 ∷ []) $ free1 ! $ move ! (9 ∷ 10 ∷ []) $ free1 ! $ move ! (7 ∷ 8 ∷ []) $ free1 ! $ free0 ! $
           move ! (5 ∷ []) $ use1 W (‵ (finally T.the-row γ₃ ys)) untouched $ move ! (1 ∷ []) $
           use1 W (‵ (fres γ (P.the-row .coded .code (emptiedOn h r)))) (W .names .obs-res γ (P.the-row .coded .code (emptiedOn h r))) $ keep ! (0 ∷ 3 ∷ 4 ∷ 5 ∷ 1 ∷ 6 ∷ []) $
           by ! (exits emptyTold (emptiedOn h r) ys (told-is was r is) (empty-told h bs ys r e taken) refl)
 
-      -- any other call: the borrow is closed, and state and run are given up
-      passes : (r : EmptyStep) → Is P.the-row h (LL.vals P.the-type P′.the-laws h) → Sq W (Tested r) (runs C Λ En code.Mir.t-5 (atRet En Post))
-      passes r was =
+      -- a vsync that is under way: the borrow is closed, and state and run are given up
+      goes-on : (r : EmptyStep) → Is P.the-row h (LL.vals P.the-type P′.the-laws h) → (z : After 𝓤 H) → post 𝓤 H z returnsᴼ ≡ atReturn 𝓤 H En Post returnsᴼ → Sq W (Tested r (r .«under_way»)) (runs C Λ En (then-of (head-of code.Mir.t-4)) z)
+      goes-on r was z at-end =
           owned ! P.the-row (Is P.the-row) ((LL.makes P.the-type P′.the-plain) 𝓤 H A) h _ was $ move ! (1 ∷ 0 ∷ []) $ closes ! tt P.the-row h (LL.vals P.the-type P′.the-laws h) b o $
           -- [obs; the borrow; the state's token; file's token; run's token; run; file; the locals]
           feqI ! (List Val) (vptr b o ∷ []) (vptr b o ∷ []) refl $ fjoin3 ! $ move ! (1 ∷ 2 ∷ 3 ∷ 0 ∷ 5 ∷ 4 ∷ []) $
           -- [the three tokens; state; file; run; the locals]
-          assigns ! (addr ! (from ! (hop ! (look ! 22 refl) (stop !)))) (from ! (stop !)) (init ! 10 refl (tt, tt)) $
-          assigns ! (addr ! (from ! (fld ! refl (hop ! (look-in ! 18 (sub ! 0 refl (whole !))) (stop !))))) (from ! (stop !)) (init ! 8 refl (tt, tt)) $
-          assigns ! (agg ! (and-then ! (load ! (from ! (stop !)) (look ! 8 refl)) (and-then ! (load ! (from ! (fld ! refl (stop !))) (look-in ! 18 (sub ! 1 refl (whole !)))) (no-more !)))) (from ! (stop !)) (init ! 6 refl (tt, (tt, (record { fits = room₃ .0 }, tt)))) $
+          assigns ! (addr ! (from ! (hop ! (look ! 32 refl) (stop !)))) (from ! (stop !)) (init ! 16 refl (tt, tt)) $
+          assigns ! (addr ! (from ! (fld ! refl (hop ! (look-in ! 28 (sub ! 0 refl (whole !))) (stop !))))) (from ! (stop !)) (init ! 14 refl (tt, tt)) $
+          assigns ! (agg ! (and-then ! (load ! (from ! (stop !)) (look ! 14 refl)) (and-then ! (load ! (from ! (fld ! refl (stop !))) (look-in ! 28 (sub ! 1 refl (whole !)))) (no-more !)))) (from ! (stop !)) (init ! 12 refl (tt, (tt, (record { fits = room₃ .0 }, tt)))) $
           move ! (4 ∷ []) $ use1 W (‵ File ⊛ ‵ File) (shr-slice-copy 𝓤 H A W (named 1) κ₂ u8 .twice x₂ (s₂ ∷ [])) $ split ! $
           move ! (0 ∷ 6 ∷ []) $ join ! $ move ! (5 ∷ 0 ∷ []) $ join ! $ move ! (4 ∷ 0 ∷ []) $ join ! $ move ! (2 ∷ 3 ∷ 0 ∷ []) $ use3 W (raw (Advances 𝓤 H A at-mem run .pre to)) goes $
           -- [the callee's need; file; the locals]
-          calls-at ! fm (Advances 𝓤 H A at-mem run) known to (and-then ! (load ! (from ! (stop !)) (look ! 6 refl)) (and-then ! (load ! (from ! (stop !)) (look ! 16 refl)) (and-then ! (load ! (from ! (stop !)) (look ! 2 refl)) (no-more !)))) (λ v.
+          calls-at ! fm (Advances 𝓤 H A at-mem run) known to (and-then ! (load ! (from ! (stop !)) (look ! 12 refl)) (and-then ! (load ! (from ! (stop !)) (look ! 26 refl)) (and-then ! (load ! (from ! (stop !)) (look ! 8 refl)) (no-more !)))) (λ v.
           use1 W (later (some (λ (r : Vsync). ((‵ (flft κ q) ⊛ ‵ (flft κ₂ q₂) ⊛ ‵ (flft κ₃ q₃) ⊛ ‵ ftrue) ⊛ ‵ (Y.the-row .own r (v ∷ []))) ⊛ raw (ensured 𝓤 H A bv.ended (bv.clauses 𝓤 H A at-mem run) (κ, (κ₂, (κ₃, tt))) args tt r)))) (id⊢ 𝓤 _) $ await ! tt $ pick ! (λ r.
           split ! $ move ! (1 ∷ []) $ use1 W (some (λ (ws : Lasts bv.ended (κ, (κ₂, (κ₃, tt))) args). ‵ (lasts bv.ended (κ, (κ₂, (κ₃, tt))) args ws) ⊛ raw (fact 𝓤 (Told r (ws .0) (ws .1 .1 .0))))) (id⊢ 𝓤 _) $ pick ! (λ ws.
           split ! $ move ! (1 ∷ []) $ heard ! (Told r (ws .0) (ws .1 .1 .0)) (λ told. fsplit ! $ move ! (1 ∷ []) $ fsplit ! $ drop ! $ fsplit ! $ fsplit ! $ move ! (1 ∷ []) $ feqL ! (λ l.
           -- [the last run; the rest of that; the last state; the tokens and the result; file; the locals]
           move ! (3 ∷ []) $ split ! $ move ! (1 ∷ []) $ peeks ! Y.the-row (Is Y.the-row) (shows 𝓤 H A Y.the-row) r (v ∷ []) (λ is. drop ! $
-          land ! (from ! (stop !)) (init ! 23 refl (LL.lawful Y.the-type Y′.the-laws 𝓤 H A W .typed r _ is .0)) $ rewrite ! 23 (λ (u : Val). ‵ (fat fullShare Y′.mir l₀ 0 u)) (ap only (LL.tells Y.the-type Y′.the-laws r _ is)) refl $
-          returns ! (look ! 23 refl) $ forget ! 23 refl $ forget ! 21 refl $ forget ! 19 refl $ forget ! 17 refl $ forget ! 15 refl $ forget ! 13 refl $ forget ! 11 refl $ forget ! 9 refl $ forget ! 7 refl $ forget ! 5 refl $ move ! (23 ∷ 24 ∷ []) $ free1 ! $ move ! (21 ∷ 22 ∷ []) $ free1 ! $ move ! (19 ∷ 20 ∷ []) $ free1 ! $ move ! (17 ∷ 18 ∷ []) $ free1 ! $ move ! (15 ∷ 16 ∷ []) $ free1 ! $ move ! (13 ∷ 14 ∷ []) $ free1 ! $ move ! (11 ∷ 12 ∷ []) $ free1 ! $ move ! (9 ∷ 10 ∷ []) $ free1 ! $ move ! (7 ∷ 8 ∷ []) $ free1 ! $ move ! (5 ∷ 6 ∷ []) $ free1 ! $ free0 ! $
+          land ! (from ! (stop !)) (init ! 21 refl (LL.lawful Y.the-type Y′.the-laws 𝓤 H A W .typed r _ is .0)) $ rewrite ! 21 (λ (u : Val). ‵ (fat fullShare Y′.mir l₆ 0 u)) (ap only (LL.tells Y.the-type Y′.the-laws r _ is)) refl $
+          assigns ! (of-opd ! (load ! (from ! (stop !)) (look ! 21 refl))) (from ! (stop !)) (init ! 33 refl (LL.lawful Y.the-type Y′.the-laws 𝓤 H A W .typed r _ (subst (Is Y.the-row r) (LL.tells Y.the-type Y′.the-laws r _ is) is) .0)) $
+          returns-within ! Post at-end (look ! 33 refl) $ forget ! 33 refl $ forget ! 31 refl $ forget ! 29 refl $ forget ! 27 refl $ forget ! 25 refl $ forget ! 23 refl $ forget ! 21 refl $ forget ! 17 refl $ forget ! 15 refl $ forget ! 13 refl $ forget ! 11 refl $ move ! (33 ∷ 34 ∷ []) $ free1 ! $ move ! (31 ∷ 32 ∷ []) $ free1 ! $ move ! (29 ∷ 30 ∷ []) $ free1 ! $ move ! (27 ∷ 28 ∷ []) $ free1 ! $ move ! (25 ∷ 26 ∷ []) $ free1 ! $ move ! (23 ∷ 24 ∷ []) $ free1 ! $ move ! (21 ∷ 22 ∷ []) $ free1 ! $ move ! (19 ∷ 20 ∷ []) $ free1 ! $ move ! (17 ∷ 18 ∷ []) $ free1 ! $ move ! (15 ∷ 16 ∷ []) $ free1 ! $ move ! (13 ∷ 14 ∷ []) $ free1 ! $ move ! (11 ∷ 12 ∷ []) $ free1 ! $ move ! (9 ∷ 10 ∷ []) $ free1 ! $ move ! (7 ∷ 8 ∷ []) $ free1 ! $ move ! (5 ∷ 6 ∷ []) $ free1 ! $ free0 ! $
+          split ! $ move ! (1 ∷ []) $ split ! $ move ! (1 ∷ []) $ split ! $ keep ! (6 ∷ 3 ∷ 2 ∷ 0 ∷ 4 ∷ 7 ∷ []) $
+          by ! (exits r (ws .0) (ws .1 .1 .0) (subst (Is Y.the-row r) (LL.tells Y.the-type Y′.the-laws r _ is) is) told l)))))))
+
+      -- any other call: the same
+      passes : (r : EmptyStep) → Is P.the-row h (LL.vals P.the-type P′.the-laws h) → Sq W (Tested r (r .taken)) (runs C Λ En code.Mir.t-7 (atRet En Post))
+      passes r was =
+          owned ! P.the-row (Is P.the-row) ((LL.makes P.the-type P′.the-plain) 𝓤 H A) h _ was $ move ! (1 ∷ 0 ∷ []) $ closes ! tt P.the-row h (LL.vals P.the-type P′.the-laws h) b o $
+          -- [obs; the borrow; the state's token; file's token; run's token; run; file; the locals]
+          feqI ! (List Val) (vptr b o ∷ []) (vptr b o ∷ []) refl $ fjoin3 ! $ move ! (1 ∷ 2 ∷ 3 ∷ 0 ∷ 5 ∷ 4 ∷ []) $
+          -- [the three tokens; state; file; run; the locals]
+          assigns ! (addr ! (from ! (hop ! (look ! 32 refl) (stop !)))) (from ! (stop !)) (init ! 10 refl (tt, tt)) $
+          assigns ! (addr ! (from ! (fld ! refl (hop ! (look-in ! 28 (sub ! 0 refl (whole !))) (stop !))))) (from ! (stop !)) (init ! 8 refl (tt, tt)) $
+          assigns ! (agg ! (and-then ! (load ! (from ! (stop !)) (look ! 8 refl)) (and-then ! (load ! (from ! (fld ! refl (stop !))) (look-in ! 28 (sub ! 1 refl (whole !)))) (no-more !)))) (from ! (stop !)) (init ! 6 refl (tt, (tt, (record { fits = room₃ .0 }, tt)))) $
+          move ! (4 ∷ []) $ use1 W (‵ File ⊛ ‵ File) (shr-slice-copy 𝓤 H A W (named 1) κ₂ u8 .twice x₂ (s₂ ∷ [])) $ split ! $
+          move ! (0 ∷ 6 ∷ []) $ join ! $ move ! (5 ∷ 0 ∷ []) $ join ! $ move ! (4 ∷ 0 ∷ []) $ join ! $ move ! (2 ∷ 3 ∷ 0 ∷ []) $ use3 W (raw (Advances 𝓤 H A at-mem run .pre to)) goes $
+          -- [the callee's need; file; the locals]
+          calls-at ! fm (Advances 𝓤 H A at-mem run) known to (and-then ! (load ! (from ! (stop !)) (look ! 6 refl)) (and-then ! (load ! (from ! (stop !)) (look ! 26 refl)) (and-then ! (load ! (from ! (stop !)) (look ! 2 refl)) (no-more !)))) (λ v.
+          use1 W (later (some (λ (r : Vsync). ((‵ (flft κ q) ⊛ ‵ (flft κ₂ q₂) ⊛ ‵ (flft κ₃ q₃) ⊛ ‵ ftrue) ⊛ ‵ (Y.the-row .own r (v ∷ []))) ⊛ raw (ensured 𝓤 H A bv.ended (bv.clauses 𝓤 H A at-mem run) (κ, (κ₂, (κ₃, tt))) args tt r)))) (id⊢ 𝓤 _) $ await ! tt $ pick ! (λ r.
+          split ! $ move ! (1 ∷ []) $ use1 W (some (λ (ws : Lasts bv.ended (κ, (κ₂, (κ₃, tt))) args). ‵ (lasts bv.ended (κ, (κ₂, (κ₃, tt))) args ws) ⊛ raw (fact 𝓤 (Told r (ws .0) (ws .1 .1 .0))))) (id⊢ 𝓤 _) $ pick ! (λ ws.
+          split ! $ move ! (1 ∷ []) $ heard ! (Told r (ws .0) (ws .1 .1 .0)) (λ told. fsplit ! $ move ! (1 ∷ []) $ fsplit ! $ drop ! $ fsplit ! $ fsplit ! $ move ! (1 ∷ []) $ feqL ! (λ l.
+          -- [the last run; the rest of that; the last state; the tokens and the result; file; the locals]
+          move ! (3 ∷ []) $ split ! $ move ! (1 ∷ []) $ peeks ! Y.the-row (Is Y.the-row) (shows 𝓤 H A Y.the-row) r (v ∷ []) (λ is. drop ! $
+          land ! (from ! (stop !)) (init ! 19 refl (LL.lawful Y.the-type Y′.the-laws 𝓤 H A W .typed r _ is .0)) $ rewrite ! 19 (λ (u : Val). ‵ (fat fullShare Y′.mir l₇ 0 u)) (ap only (LL.tells Y.the-type Y′.the-laws r _ is)) refl $
+          assigns ! (of-opd ! (load ! (from ! (stop !)) (look ! 19 refl))) (from ! (stop !)) (init ! 33 refl (LL.lawful Y.the-type Y′.the-laws 𝓤 H A W .typed r _ (subst (Is Y.the-row r) (LL.tells Y.the-type Y′.the-laws r _ is) is) .0)) $
+          returns ! (look ! 33 refl) $ forget ! 33 refl $ forget ! 31 refl $ forget ! 29 refl $ forget ! 27 refl $ forget ! 25 refl $ forget ! 23 refl $ forget ! 19 refl $ forget ! 17 refl $ forget ! 9 refl $ forget ! 7 refl $ forget ! 5 refl $ move ! (33 ∷ 34 ∷ []) $ free1 ! $ move ! (31 ∷ 32 ∷ []) $ free1 ! $ move ! (29 ∷ 30 ∷ []) $ free1 ! $ move ! (27 ∷ 28 ∷ []) $ free1 ! $ move ! (25 ∷ 26 ∷ []) $ free1 ! $ move ! (23 ∷ 24 ∷ []) $ free1 ! $ move ! (21 ∷ 22 ∷ []) $ free1 ! $ move ! (19 ∷ 20 ∷ []) $ free1 ! $ move ! (17 ∷ 18 ∷ []) $ free1 ! $ move ! (15 ∷ 16 ∷ []) $ free1 ! $ move ! (13 ∷ 14 ∷ []) $ free1 ! $ move ! (11 ∷ 12 ∷ []) $ free1 ! $ move ! (9 ∷ 10 ∷ []) $ free1 ! $ move ! (7 ∷ 8 ∷ []) $ free1 ! $ move ! (5 ∷ 6 ∷ []) $ free1 ! $ free0 ! $
           split ! $ move ! (1 ∷ []) $ split ! $ move ! (1 ∷ []) $ split ! $ keep ! (6 ∷ 3 ∷ 2 ∷ 0 ∷ 4 ∷ 7 ∷ []) $
           by ! (exits r (ws .0) (ws .1 .1 .0) (subst (Is Y.the-row r) (LL.tells Y.the-type Y′.the-laws r _ is) is) told l)))))))
 
       -- the state is read, and the covered `empty_step` is called
       decides : Is P.the-row h (LL.vals P.the-type P′.the-laws h) → Sq W Entered (runs C Λ En code.Mir.t-1 (atRet En Post))
       decides was =
-          assigns ! (of-opd ! (load ! (from ! (hop ! (look ! 24 refl) (stop !))) (look-raw ! 0 refl))) (from ! (stop !)) (init ! 18 refl (LL.lawful P.the-type P′.the-laws 𝓤 H A W .typed h _ was .0)) $
+          assigns ! (of-opd ! (load ! (from ! (hop ! (look ! 34 refl) (stop !))) (look-raw ! 0 refl))) (from ! (stop !)) (init ! 28 refl (LL.lawful P.the-type P′.the-laws 𝓤 H A W .typed h _ was .0)) $
           move ! (7 ∷ []) $ use1 W (‵ File ⊛ ‵ File) (shr-slice-copy 𝓤 H A W (named 1) κ₂ u8 .twice x₂ (s₂ ∷ [])) $ split ! $ move ! (6 ∷ 0 ∷ []) $
           use2 W (raw (Decides 𝓤 H A at-mem run .pre (to-step was))) (goes-step was) $
-          calls-at ! fm (Decides 𝓤 H A at-mem run) known-step (to-step was) (and-then ! (load ! (from ! (stop !)) (look ! 22 refl)) (and-then ! (load ! (from ! (fld ! refl (stop !))) (look-in ! 18 (sub ! 0 refl (whole !)))) (and-then ! (load ! (from ! (fld ! refl (fld ! refl (stop !)))) (look-in ! 18 (sub ! 1 refl (sub ! 1 refl (whole !))))) (and-then ! (load ! (from ! (fld ! refl (stop !))) (look-in ! 18 (sub ! 3 refl (whole !)))) (no-more !))))) (λ v.
+          calls-at ! fm (Decides 𝓤 H A at-mem run) known-step (to-step was) (and-then ! (load ! (from ! (stop !)) (look ! 32 refl)) (and-then ! (load ! (from ! (fld ! refl (stop !))) (look-in ! 28 (sub ! 0 refl (whole !)))) (and-then ! (load ! (from ! (fld ! refl (fld ! refl (stop !)))) (look-in ! 28 (sub ! 1 refl (sub ! 1 refl (whole !))))) (and-then ! (load ! (from ! (fld ! refl (stop !))) (look-in ! 28 (sub ! 3 refl (whole !)))) (no-more !))))) (λ v.
           use1 W (later (some (λ (r : EmptyStep). ((‵ (flft κ₂ q₂) ⊛ ‵ ftrue) ⊛ ‵ (Q.the-row .own r (v ∷ []))) ⊛ raw (ensured 𝓤 H A es.ended (es.clauses 𝓤 H A at-mem run) (κ₂, tt) (to-step was .0 .3) tt r)))) (id⊢ 𝓤 _) $ await ! tt $ pick ! (λ r.
           split ! $ move ! (1 ∷ []) $ use1 W (raw (fact 𝓤 (Stepped r))) (said 𝓤 H A at-mem run κ₂ x₂ (h .header) (h .cards .count) (h .progress) r) $ heard ! (Stepped r) (λ e. split ! $ move ! (1 ∷ []) $
           peeks ! Q.the-row (Is Q.the-row) (shows 𝓤 H A Q.the-row) r (v ∷ []) (λ is. drop ! $
-          land ! (from ! (stop !)) (init ! 16 refl (LL.lawful Q.the-type Q′.the-laws 𝓤 H A W .typed r _ is .0)) $ rewrite ! 16 (λ (u : Val). ‵ (fat fullShare Q′.mir l₅ 0 u)) (ap only (LL.tells Q.the-type Q′.the-laws r _ is)) refl $
-          split ! $ keep ! (3 ∷ 4 ∷ 5 ∷ 6 ∷ 0 ∷ 7 ∷ 8 ∷ 2 ∷ 9 ∷ 10 ∷ 11 ∷ 12 ∷ 13 ∷ 14 ∷ 15 ∷ 16 ∷ 17 ∷ 18 ∷ 19 ∷ 20 ∷ 21 ∷ 22 ∷ 23 ∷ 24 ∷ 25 ∷ 26 ∷ 27 ∷ 28 ∷ []) $
+          land ! (from ! (stop !)) (init ! 26 refl (LL.lawful Q.the-type Q′.the-laws 𝓤 H A W .typed r _ is .0)) $ rewrite ! 26 (λ (u : Val). ‵ (fat fullShare Q′.mir l₅ 0 u)) (ap only (LL.tells Q.the-type Q′.the-laws r _ is)) refl $
+          split ! $ keep ! (3 ∷ 4 ∷ 5 ∷ 6 ∷ 0 ∷ 7 ∷ 8 ∷ 2 ∷ 9 ∷ 10 ∷ 11 ∷ 12 ∷ 13 ∷ 14 ∷ 15 ∷ 16 ∷ 17 ∷ 18 ∷ 19 ∷ 20 ∷ 21 ∷ 22 ∷ 23 ∷ 24 ∷ 25 ∷ 26 ∷ 27 ∷ 28 ∷ 29 ∷ 30 ∷ 31 ∷ 32 ∷ 33 ∷ 34 ∷ 35 ∷ 36 ∷ 37 ∷ 38 ∷ []) $
           decided r e was (subst (Is Q.the-row r) (LL.tells Q.the-type Q′.the-laws r _ is) is)))))
         where
+          asked : (r : EmptyStep) → Stepped r → Is P.the-row h (LL.vals P.the-type P′.the-laws h) → Is Q.the-row r (LL.vals Q.the-type Q′.the-laws r) → Sq W (Tested r (r .«under_way»)) (runs C Λ En code.Mir.t-5 (atRet En Post))
+          asked r e was is =
+              forget ! 20 refl $ assigns ! (of-opd ! (load ! (from ! (fld ! refl (stop !))) (look-in ! 26 (sub ! 1 refl (whole !))))) (from ! (stop !)) (init ! 20 refl (tt, tt)) $
+              first ! $ branches ! (load ! (from ! (stop !)) (look ! 20 refl)) (λ t. ends r e (holds (r .taken) t) was is _ refl) (λ t. skips ! $ exec ! C Λ En code.Mir.t-7 (atRet En Post) $ passes r was)
+
           decided : (r : EmptyStep) → Stepped r → Is P.the-row h (LL.vals P.the-type P′.the-laws h) → Is Q.the-row r (LL.vals Q.the-type Q′.the-laws r) → Sq W (Decided r) (runs C Λ En code.Mir.t-3 (atRet En Post))
           decided r e was is =
-              assigns ! (of-opd ! (load ! (from ! (fld ! refl (stop !))) (look-in ! 16 (sub ! 0 refl (whole !))))) (from ! (stop !)) (init ! 14 refl (tt, tt)) $
-              first ! $ branches ! (load ! (from ! (stop !)) (look ! 14 refl)) (λ t. ends r e (holds (r .taken) t) was is _ refl) (λ t. skips ! $ exec ! C Λ En code.Mir.t-5 (atRet En Post) $ passes r was)
+              assigns ! (of-opd ! (load ! (from ! (fld ! refl (stop !))) (look-in ! 26 (sub ! 0 refl (whole !))))) (from ! (stop !)) (init ! 20 refl (tt, tt)) $
+              first ! $ branches ! (load ! (from ! (stop !)) (look ! 20 refl)) (λ t. goes-on r was _ refl) (λ t. skips ! $ exec ! C Λ En code.Mir.t-5 (atRet En Post) $ asked r e was is)
 
     walk : ent 𝓤 (onEntry 𝓤 H A f.signature (κ, (κ₂, (κ₃, tt))) (q, (q₂, (q₃, tt))) args vals) (WpFn 𝓤 H C Λ code.function (vptr b o ∷ s₂ ∷ s₃ ∷ []) Post)
     walk =
         qed W ((‵ (flft κ q) ⊛ ‵ (flft κ₂ q₂) ⊛ ‵ (flft κ₃ q₃) ⊛ ‵ ftrue) ∷ ‵ (owns (MutRef (named 0) κ P.the-row ∷ ShrSlice (named 1) κ₂ u8 ∷ MutSlice (named 2) κ₃ T.the-row ∷ []) args vals) ∷ []) ∵ enter ! C Λ code.function (vptr b o ∷ s₂ ∷ s₃ ∷ []) _ $
-        alloc1 ! (λ l₀. alloc1 ! (λ l₁. alloc1 ! (λ l₂. alloc1 ! (λ l₃. alloc1 ! (λ l₄. alloc1 ! (λ l₅. alloc1 ! (λ l₆. alloc1 ! (λ l₇. alloc1 ! (λ l₈. alloc1 ! (λ l₉. alloc0 ! $ params1 ! $
-        pass1 ! (init ! 16 refl (tt, tt)) $ pass1 ! (init ! 14 refl (tt, (tt, (record { fits = room₂ .0 }, tt)))) $ pass1 ! (init ! 12 refl (tt, (tt, (record { fits = room₃ .0 }, tt)))) $ pass0 ! $
+        alloc1 ! (λ l₀. alloc1 ! (λ l₁. alloc1 ! (λ l₂. alloc1 ! (λ l₃. alloc1 ! (λ l₄. alloc1 ! (λ l₅. alloc1 ! (λ l₆. alloc1 ! (λ l₇. alloc1 ! (λ l₈. alloc1 ! (λ l₉. alloc1 ! (λ l₁₀. alloc1 ! (λ l₁₁. alloc1 ! (λ l₁₂. alloc1 ! (λ l₁₃. alloc1 ! (λ l₁₄. alloc0 ! $ params1 ! $
+        pass1 ! (init ! 26 refl (tt, tt)) $ pass1 ! (init ! 24 refl (tt, (tt, (record { fits = room₂ .0 }, tt)))) $ pass1 ! (init ! 22 refl (tt, (tt, (record { fits = room₃ .0 }, tt)))) $ pass0 ! $
         -- [the locals; the tokens; what the parameters own]
-        move ! (21 ∷ []) $ fsplit ! $ move ! (1 ∷ []) $ fsplit ! $ move ! (1 ∷ []) $ fsplit ! $ move ! (1 ∷ []) $ drop ! $
-        move ! (23 ∷ []) $ split ! $ move ! (1 ∷ []) $ split ! $ move ! (1 ∷ []) $ split ! $ move ! (1 ∷ []) $ drop ! $ move ! (5 ∷ []) $ fsplit3 ! $ drop ! $ move ! (0 ∷ 1 ∷ 4 ∷ []) $
+        move ! (31 ∷ []) $ fsplit ! $ move ! (1 ∷ []) $ fsplit ! $ move ! (1 ∷ []) $ fsplit ! $ move ! (1 ∷ []) $ drop ! $
+        move ! (33 ∷ []) $ split ! $ move ! (1 ∷ []) $ split ! $ move ! (1 ∷ []) $ split ! $ move ! (1 ∷ []) $ drop ! $ move ! (5 ∷ []) $ fsplit3 ! $ drop ! $ move ! (0 ∷ 1 ∷ 4 ∷ []) $
         -- [obs; the borrow; the token; run's token; file's token; run; file; the locals]
         opens ! tt P.the-row {h = h} b o (λ vs. spelt ! P.the-row (Is P.the-row) (shows 𝓤 H A P.the-row) (LL.vals P.the-type P′.the-laws) (LL.tells P.the-type P′.the-laws) fullShare h vs b o $
         move ! (1 ∷ []) $ peeks ! P.the-row (Is P.the-row) (shows 𝓤 H A P.the-row) h (LL.vals P.the-type P′.the-laws h) (λ was. drop ! $ move ! (0 ∷ 1 ∷ 2 ∷ 3 ∷ 5 ∷ 4 ∷ []) $
-        decides l₀ l₁ l₂ l₃ l₄ l₅ l₆ l₇ l₈ l₉ was))))))))))))
+        decides l₀ l₁ l₂ l₃ l₄ l₅ l₆ l₇ l₈ l₉ l₁₀ l₁₁ l₁₂ l₁₃ l₁₄ was)))))))))))))))))
 
 module _ {M : Type 1} (𝓤 : URA M) (H : Heap 𝓤) (A : Atoms 𝓤) (W : Given 𝓤 H A) (at-mem : Memory → SProp 𝓤) (run : Routine → Fun 𝓤) where
   advance-vsync-walks : (C : Calls 𝓤 H) (Λ : Loops 𝓤 H) → FmC 𝓤 H (W .laws) C → Triple 𝓤 (C #empty-step) (Decides 𝓤 H A at-mem run) → Triple 𝓤 (C #player·busy-vsync) (Advances 𝓤 H A at-mem run) → Walks 𝓤 H A f.ended stayed (WpFn 𝓤 H C Λ code.function) (f.clauses 𝓤 H A at-mem run)
