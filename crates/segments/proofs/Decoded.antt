@@ -9,7 +9,7 @@ use lib.Dec.{eqb}
 use lib.ListN.{length}
 use Rattle.format.specs.declared.player.StreamPlayer.{StreamPlayer}
 use Rattle.format.specs.Bytes.{byte}
-use Rattle.format.specs.Checked.{Checked, ok}
+use Rattle.format.specs.Checked.{ok}
 use Rattle.format.specs.Operation.{Setting, Item, addressWidth, operationAt, recordAt, itemAt}
 use Rattle.format.specs.Player.{settingIn}
 use Rattle.format.proofs.Checks.{cond-false}

@@ -23,22 +23,27 @@ use Rattle.segments.specs.declared.span.Span.{Span}
 use Rattle.segments.specs.Decoded.{recordDecoded, operationDecoded}
 use Rattle.segments.specs.Operation.{unplayable}
 use Rattle.segments.specs.Place.{stopped, onward, runPlace}
-use Rattle.segments.specs.Span.{noSpan, valueSpan, spanOf, spanFrom, recordIn, valueIn, copyIn, ended, fitted, spanSegment, behind, spanTurn}
+use Rattle.segments.specs.Span.{noSpan, spanOf, spanFrom, recordIn, recordRead, valueIn, copyIn, ended, fitted, spanSegment, behind, spanTurn}
 use Rattle.segments.specs.Turn.{halted, operationTurn, turnOf}
 
 -- READING
 
+-- so many bytes from a place on are there, where the test says that they do not pass the file's end
+pub inside : (passed : Bool) (size at count : ℕ) → passed ≡ ltb size (at + count) → passed ≡ false → at + count ≤ size
+inside passed size at count is room = ltb-false size (at + count) (sym is ∙ room)
+
 -- the opcode, in 16 bytes that begin with it
-pub opcode-is : (file : List ℕ) (at opcode : ℕ) → opcode ≡ byte (part file at 16) 0 → byte file at ≡ opcode
-opcode-is file at opcode e = sym (e ∙ byte-part file at 16 0 (omega arith) ∙ ap (byte file) (add-zero at))
+pub opcode-is : (file bytes : List ℕ) (at opcode : ℕ) → opcode ≡ byte bytes 0 → bytes ≡ part file at 16 → byte file at ≡ opcode
+opcode-is file bytes at opcode first is =
+    sym (first ∙ ap (λ (l : List ℕ). byte l 0) is ∙ byte-part file at 16 0 (omega arith) ∙ ap (byte file) (add-zero at))
 
 module _ (file : List ℕ) (directory at : ℕ) where
   -- a record of version 1
-  pub record-read : recordIn file at ≡ spanFrom file directory (recordDecoded file at)
+  pub record-read : recordRead file at ≡ spanFrom file directory (recordDecoded file at)
   unfolding recordDecoded
   record-read = go (ltb (length file) (at + 5))
     where
-      go : (b : Bool) → cond b noSpan (valueSpan (byte file at) (be 3 file (at + 1)) 1 (byte file (at + 4)) (at + 5)) ≡ spanFrom file directory (refuse 14 at b >> ok (record { operation = Write (byte file at) (be 3 file (at + 1)) (byte file (at + 4)); next = at + 5 }))
+      go : (b : Bool) → cond b noSpan (recordIn file at) ≡ spanFrom file directory (refuse 14 at b >> ok (record { operation = Write (byte file at) (be 3 file (at + 1)) (byte file (at + 4)); next = at + 5 }))
       go true = refl
       go false = refl
 
@@ -62,9 +67,6 @@ module _ (file : List ℕ) (directory at : ℕ) where
     found few within = rw (le-ltb 2 (byte file at) few, le-ltb (length file) (at + sizeOf width (byte file at)) within)
 
     module _ (low : 3 ≤ width) (high : width ≤ 4) (within : at + 16 ≤ length file) where
-      abbrev bytes : List ℕ
-      bytes = part file at 16
-
       -- in 16 bytes every operation has room
       found-in : (opcode : ℕ) → byte file at ≡ opcode → opcode ≤ 2 → getD extras opcode 0 ≤ 12 → here ≡ spanOf file directory (fieldsAt file width at opcode) (at + (width + getD extras opcode 0))
       found-in opcode is few small =
@@ -123,7 +125,10 @@ module _ (file : List ℕ) (directory : ℕ) (place : Place) where
       let span = spanOf file directory (Copy target address id source size) next in
       turn-chosen (ended span (place .done)) (span .count - place .done) next (spanSegment span (place .done))
 
-  pub span-turns : (item : Checked Item) → spanTurn place (spanFrom file directory item) ≡ turnOf file directory place item
+  item-turns : (item : Checked Item) → spanTurn place (spanFrom file directory item) ≡ turnOf file directory place item
   unfolding spanTurn ended
-  span-turns (ok item) = operation-turns (item .operation) (item .next)
-  span-turns (refused number at) = refl
+  item-turns (ok item) = operation-turns (item .operation) (item .next)
+  item-turns (refused number at) = refl
+
+  pub span-turns : (span : Span) (item : Checked Item) → span ≡ spanFrom file directory item → spanTurn place span ≡ turnOf file directory place item
+  span-turns span item is = ap (spanTurn place) is ∙ item-turns item

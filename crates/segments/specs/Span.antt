@@ -43,10 +43,12 @@ spanFrom file directory (refused number at) = noSpan
 
 -- THE READS OF THE CODE
 
--- a record of version 1 at a place
+-- a record of version 1 at a place, and where it passes the file's end none
 abbrev pub recordIn : List ℕ → (at : ℕ) → Span
-recordIn file at =
-    cond (ltb (length file) (at + 5)) noSpan (valueSpan (byte file at) (be 3 file (at + 1)) 1 (byte file (at + 4)) (at + 5))
+recordIn file at = valueSpan (byte file at) (be 3 file (at + 1)) 1 (byte file (at + 4)) (at + 5)
+
+abbrev pub recordRead : List ℕ → (at : ℕ) → Span
+recordRead file at = cond (ltb (length file) (at + 5)) noSpan (recordIn file at)
 
 -- a WRITE, with the opcode 0, or a FILL, with 1, at a place, in bytes that begin with it
 abbrev pub valueIn : List ℕ → (width opcode at : ℕ) → Span

@@ -20,15 +20,13 @@ ghost use Prim.Native.Nat.{_+_, _^_, _≤_, _<_};
 ghost use lib.Dec.{eqb};
 ghost use lib.ListN.{length};
 ghost use Rattle.segments.specs.Decoded.{operationDecoded, decoded};
-ghost use Rattle.segments.specs.Span.{spanFrom, recordIn, valueIn, copyIn};
+ghost use Rattle.segments.specs.Span.{spanFrom, recordIn, recordRead, valueIn, copyIn};
 
-// A record of version 1.
-fn record_span(file: &[u8], at: usize) -> Span
+// A record of version 1 that is whole.
+fn record_in(file: &[u8], at: usize) -> Span
+    requires { ⌜ at + 5 ≤ length (now file) ⌝ }
     ensures { λ r. ⌜ r ≡ recordIn (now (file .entry)) at ⌝ }
 {
-    if passes(file.len(), at, 5) {
-        return no_span();
-    }
     value_span(
         byte_at(file, at),
         read_u24(file, at + 1),
@@ -36,6 +34,16 @@ fn record_span(file: &[u8], at: usize) -> Span
         byte_at(file, at + 4),
         at + 5,
     )
+}
+
+// A record of version 1.
+fn record_span(file: &[u8], at: usize) -> Span
+    ensures { λ r. ⌜ r ≡ recordRead (now (file .entry)) at ⌝ }
+{
+    if passes(file.len(), at, 5) {
+        return no_span();
+    }
+    record_in(file, at)
 }
 
 // The number of writes: 1 for a WRITE, and for a FILL its length. Both are read, so this is a choice between two values.

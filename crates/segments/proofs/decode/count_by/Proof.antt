@@ -1,6 +1,5 @@
 -- `segments::decode::count_by` meets its contract. Assumes nothing.
 use borrow.Author.Tests.{eq-eqb, ne-eqb}
-use borrow.Author.Needs.{needs}
 use Rattle.segments.proofs.decode.count_by.Statement.{statement}
 use Rattle.segments.proofs.decode.count_by.Tie as tie
 

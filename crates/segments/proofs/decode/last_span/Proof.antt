@@ -1,10 +1,9 @@
 -- `segments::decode::last_span` meets its contract. Assumes nothing.
-use Prim.Native.Nat.{_+_}
 use mathlib.Core.Path.{sym, _∙_}
 use native.Mathlib.Omega.{arith}
-use borrow.Author.Tests.{ltb-true, ltb-false}
+use borrow.Author.Tests.{ltb-true}
 use lib.ListN.{length}
-use Rattle.segments.proofs.Spans.{no-opcode, cut-off, found}
+use Rattle.segments.proofs.Spans.{inside, no-opcode, cut-off, found}
 use borrow.Author.Needs.{needs}
 use Rattle.segments.proofs.decode.last_span.Statement.{statement}
 use Rattle.segments.proofs.decode.last_span.Tie as tie
@@ -45,14 +44,14 @@ read-fields-requires : tie.Need-read-fields-requires
 read-fields-requires c κs =
     let s = c .before .before in
     let a = s .before .before .before .before .args in
-    omega (arith, s .operation-size .ensures .0, ltb-false (length (a .file .now)) (a .at + s .operation-size .result) (sym (c .before .passes .ensures) ∙ c .if2 .left))
+    omega (arith, s .operation-size .ensures .0, inside _ (length (a .file .now)) (a .at) (s .operation-size .result) (c .before .passes .ensures) (c .if2 .left))
 
 add-span-of : tie.Need-add-span-of
 add-span-of c =
     let e = c .before in
     let s = e .before .before in
     let a = s .before .before .before .before .args in
-    omega (arith, ltb-false (length (a .file .now)) (a .at + s .operation-size .result) (sym (e .before .passes .ensures) ∙ e .if2 .left))
+    omega (arith, inside _ (length (a .file .now)) (a .at) (s .operation-size .result) (e .before .passes .ensures) (e .if2 .left))
 
 span-of-requires : tie.Need-span-of-requires
 span-of-requires c κs = search needs
@@ -63,7 +62,7 @@ returns-3 c =
     let s = e .before .before in
     let o = s .before .before in
     let a = o .before .before .args in
-    rw (c .span-of .ensures, c .before .read-fields .ensures, s .operation-size .ensures .0, o .byte-at .ensures) (sym (found (a .file .now) (a .directory) (a .at) (a .width) (rw (← (o .byte-at .ensures)) (s .before .if1 .left)) (rw (← (o .byte-at .ensures), ← (s .operation-size .ensures .0)) (ltb-false _ _ (sym (e .before .passes .ensures) ∙ e .if2 .left)))))
+    rw (c .span-of .ensures, c .before .read-fields .ensures, s .operation-size .ensures .0, o .byte-at .ensures) (sym (found (a .file .now) (a .directory) (a .at) (a .width) (rw (← (o .byte-at .ensures)) (s .before .if1 .left)) (rw (← (o .byte-at .ensures), ← (s .operation-size .ensures .0)) (inside _ (length (a .file .now)) (a .at) (s .operation-size .result) (e .before .passes .ensures) (e .if2 .left)))))
 
 pub last-span-spec : {M : Type 1} → statement M
 last-span-spec =

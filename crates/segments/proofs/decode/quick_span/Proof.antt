@@ -1,9 +1,6 @@
 -- `segments::decode::quick_span` meets its contract. Assumes nothing.
-use Prim.Native.Nat.{ℕ}
-use mathlib.Core.List.{List}
-use mathlib.Core.Path.{sym, ap, _∙_}
+use mathlib.Core.Path.{sym, _∙_}
 use native.Mathlib.Omega.{arith}
-use Rattle.format.specs.Bytes.{byte}
 use Rattle.segments.proofs.Spans.{opcode-is, no-opcode, value-read, copy-read}
 use borrow.Author.Needs.{needs}
 use Rattle.segments.proofs.decode.quick_span.Statement.{statement}
@@ -26,7 +23,7 @@ returns c =
     let o = c .before .before in
     let w = o .before in
     let a = w .before .before .args in
-    let is = opcode-is (a .file .now) (a .at) (o .byte-at .result) (o .byte-at .ensures ∙ ap (λ (l : List ℕ). byte l 0) (w .window .ensures)) in
+    let is = opcode-is (a .file .now) _ (a .at) _ (o .byte-at .ensures) (w .window .ensures) in
     rw (c .value-in .ensures, w .window .ensures) (value-read (a .file .now) (a .directory) (a .at) (a .width) (omega arith) (omega arith) (omega arith) (o .byte-at .result) is (c .before .if1 .taken))
 
 copy-in-requires : tie.Need-copy-in-requires
@@ -37,7 +34,7 @@ returns-2 c =
     let o = c .before .before .before in
     let w = o .before in
     let a = w .before .before .args in
-    let is = opcode-is (a .file .now) (a .at) (o .byte-at .result) (o .byte-at .ensures ∙ ap (λ (l : List ℕ). byte l 0) (w .window .ensures)) in
+    let is = opcode-is (a .file .now) _ (a .at) _ (o .byte-at .ensures) (w .window .ensures) in
     rw (c .copy-in .ensures, w .window .ensures) (copy-read (a .file .now) (a .directory) (a .at) (a .width) (omega arith) (omega arith) (omega arith) (is ∙ c .before .if2 .taken))
 
 no-span-requires : tie.Need-no-span-requires
@@ -48,7 +45,7 @@ returns-3 c =
     let o = c .before .before .before in
     let w = o .before in
     let a = w .before .before .args in
-    let is = opcode-is (a .file .now) (a .at) (o .byte-at .result) (o .byte-at .ensures ∙ ap (λ (l : List ℕ). byte l 0) (w .window .ensures)) in
+    let is = opcode-is (a .file .now) _ (a .at) _ (o .byte-at .ensures) (w .window .ensures) in
     rw (c .no-span .ensures) (sym (no-opcode (a .file .now) (a .directory) (a .at) (a .width) (omega (arith, is, c .before .before .if1 .left, c .before .if2 .left))))
 
 pub quick-span-spec : {M : Type 1} → statement M

@@ -1,11 +1,9 @@
 -- `segments::decode::read_span` meets its contract. Assumes nothing.
-use Prim.Native.Nat.{_+_}
-use mathlib.Core.Path.{sym, _∙_}
 use native.Mathlib.Omega.{arith}
-use borrow.Author.Tests.{ltb-false, eq-eqb, ne-eqb}
+use borrow.Author.Tests.{eq-eqb, ne-eqb}
 use lib.ListN.{length}
 use Rattle.segments.specs.Decoded.{decoded}
-use Rattle.segments.proofs.Spans.{record-read}
+use Rattle.segments.proofs.Spans.{inside, record-read}
 use borrow.Author.Needs.{needs}
 use Rattle.segments.proofs.decode.read_span.Statement.{statement}
 use Rattle.segments.proofs.decode.read_span.Tie as tie
@@ -38,7 +36,7 @@ quick-span-requires : tie.Need-quick-span-requires
 quick-span-requires c κs =
     let p = c .before in
     let a = p .before .before .before .before .args in
-    omega (arith, ltb-false (length (a .file .now)) (a .at + 16) (sym (p .passes .ensures) ∙ c .if2 .left))
+    omega (arith, inside _ (length (a .file .now)) (a .at) 16 (p .passes .ensures) (c .if2 .left))
 
 returns-3 : tie.Need-returns-3
 unfolding decoded

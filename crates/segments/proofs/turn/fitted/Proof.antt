@@ -1,6 +1,5 @@
 -- `segments::turn::fitted` meets its contract. Assumes nothing.
 use borrow.Author.Tests.{le-leb, lt-leb}
-use borrow.Author.Needs.{needs}
 use Rattle.segments.proofs.turn.fitted.Statement.{statement}
 use Rattle.segments.proofs.turn.fitted.Tie as tie
 

@@ -1,7 +1,6 @@
 -- `segments::turn::next_segment` meets its contract. Assumes nothing.
-use mathlib.Core.Path.{sym, ap, _∙_}
+use mathlib.Core.Path.{sym, _∙_}
 use Rattle.format.proofs.Checks.{cond-false}
-use Rattle.segments.specs.Span.{spanTurn}
 use Rattle.segments.specs.Decoded.{decoded}
 use Rattle.segments.specs.Turn.{turn}
 use Rattle.segments.proofs.Spans.{span-turns}
@@ -27,7 +26,7 @@ unfolding turn
 returns-2 c =
     let e = c .before .before in
     let a = e .before .before .args in
-    c .span-turn .ensures ∙ ap (spanTurn (a .place)) (c .before .read-span .ensures) ∙ span-turns (a .file .now) (a .state .header .«directory_offset») (a .place) (decoded (a .file .now) (a .state .header .version) (a .place .cursor)) ∙ sym (cond-false (a .place .closing) _ _ (e .if1 .left))
+    c .span-turn .ensures ∙ span-turns (a .file .now) (a .state .header .«directory_offset») (a .place) (c .before .read-span .result) (decoded (a .file .now) (a .state .header .version) (a .place .cursor)) (c .before .read-span .ensures) ∙ sym (cond-false (a .place .closing) _ _ (e .if1 .left))
 
 pub next-segment-spec : {M : Type 1} → statement M
 next-segment-spec =
