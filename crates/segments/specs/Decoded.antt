@@ -7,7 +7,7 @@ use lib.Dec.{eqb, ltb}
 use lib.ListN.{length}
 use Rattle.format.specs.declared.operation.Operation.the-variants.{Write}
 use Rattle.format.specs.Bytes.{byte, be}
-use Rattle.format.specs.Checked.{Checked, ok, refuse, _>>=_, _>>_}
+use Rattle.format.specs.Checked.{Checked, ok, refuse, _>>_}
 use Rattle.format.specs.Operation.{Item, addressWidth, sizeOf, fieldsAt}
 
 -- a record of version 1
