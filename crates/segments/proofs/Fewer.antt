@@ -7,13 +7,13 @@ use lib.Dec.{leb}
 use Rattle.format.specs.declared.operation.Operation.{Operation}
 use Rattle.format.specs.declared.player.StreamPlayer.{StreamPlayer}
 use Rattle.format.specs.Checked.{Checked, ok, refused}
-use Rattle.format.specs.Operation.{Item, itemAt}
+use Rattle.format.specs.Operation.{Item}
 use Rattle.format.specs.Pace.{countOf}
-use Rattle.format.specs.Player.{settingIn}
 use Rattle.segments.specs.declared.place.Place.{Place}
 use Rattle.segments.specs.declared.place.Turn.{Turn}
+use Rattle.segments.specs.Decoded.{decoded}
 use Rattle.segments.specs.Operation.{unplayable}
-use Rattle.segments.specs.Turn.{limitAt, closingTurn, operationTurn, turnOf, turn}
+use Rattle.segments.specs.Turn.{closingTurn, operationTurn, turnOf, turn}
 
 one-less : (b : Bool) (n : ℕ) (p q : Place) → p .left < n → q .left < n → cond b p q .left < n
 one-less true n p q h h′ = h
@@ -39,4 +39,4 @@ of-less file directory place (refused number at) some = some
 pub turn-less : (file : List ℕ) (state : StreamPlayer) (place : Place) → 0 < place .left → turn file state place .place .left < place .left
 unfolding turn
 turn-less file state place some =
-    turn-either (place .closing) (place .left) _ _ (closing-less place some) (of-less file (state .header .«directory_offset») place (itemAt (settingIn state file) file (limitAt file (state .header) place) (place .cursor)) some)
+    turn-either (place .closing) (place .left) _ _ (closing-less place some) (of-less file (state .header .«directory_offset») place (decoded file (state .header .version) (place .cursor)) some)

@@ -1,2 +1,3 @@
-pub mod Playable
 pub mod Fewer
+pub mod Spans
+pub mod Decoded

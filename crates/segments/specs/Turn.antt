@@ -2,25 +2,18 @@
 use Prim.Native.Nat.{ℕ, _+_, _-_}
 use mathlib.Core.Bool.{cond}
 use mathlib.Core.List.{List}
-use lib.Dec.{eqb, leb}
-use lib.ListN.{length}
-use Rattle.format.specs.declared.header.Header.{Header}
+use lib.Dec.{leb}
 use Rattle.format.specs.declared.operation.Operation.{Operation}
 use Rattle.format.specs.declared.player.StreamPlayer.{StreamPlayer}
 use Rattle.format.specs.Checked.{Checked, ok, refused}
-use Rattle.format.specs.Operation.{Item, itemAt}
+use Rattle.format.specs.Operation.{Item}
 use Rattle.format.specs.Pace.{countOf}
-use Rattle.format.specs.Player.{settingIn}
-use Rattle.format.specs.Stream.{openingLimit}
 use Rattle.segments.specs.declared.place.Place.{Place}
 use Rattle.segments.specs.declared.place.Turn.{Turn}
 use Rattle.segments.specs.Place.{oneValue, stopped, onward, runPlace}
 use Rattle.segments.specs.Closing.{closingSegment}
+use Rattle.segments.specs.Decoded.{decoded}
 use Rattle.segments.specs.Operation.{addressOf, unplayable, segmentOf}
-
--- the limit of rule 14: the opening's, or the file's end for a frame
-unfoldable pub limitAt : List ℕ → Header → Place → ℕ
-limitAt file header place = cond (eqb (place .opening) 0) (length file) (openingLimit header file)
 
 -- there is no next segment
 abbrev pub halted : Place → Turn
@@ -40,7 +33,7 @@ operationTurn file directory place operation next =
     (cond (leb (place .room) rest) (record { at = runPlace place; segment = segmentOf file directory operation address (place .done) (place .room); place = stopped place })
     (record { at = runPlace place; segment = segmentOf file directory operation address (place .done) rest; place = onward place next rest }))
 
--- where an operation is refused there is none
+-- where no operation is decoded there is none
 abbrev pub turnOf : List ℕ → (directory : ℕ) → Place → Checked Item → Turn
 turnOf file directory place (ok item) = operationTurn file directory place (item .operation) (item .next)
 turnOf file directory place (refused number at) = halted place
@@ -48,4 +41,4 @@ turnOf file directory place (refused number at) = halted place
 unfoldable pub turn : List ℕ → StreamPlayer → Place → Turn
 turn file state place =
     cond (place .closing) (closingTurn place)
-    (turnOf file (state .header .«directory_offset») place (itemAt (settingIn state file) file (limitAt file (state .header) place) (place .cursor)))
+    (turnOf file (state .header .«directory_offset») place (decoded file (state .header .version) (place .cursor)))

@@ -1,7 +1,8 @@
 // The records of a vsync call as segments, one after the other. Nothing is stored here.
 mod closing;
-mod of_operation;
+mod decode;
 mod place;
+mod span;
 mod turn;
 
 pub use place::Place;

@@ -1,35 +1,19 @@
-// One segment of a call's records, and the place behind it.
+// One segment of a call's records, and the place behind it. A turn of an operation is made at one place: the count and the place behind
+// the segment are chosen first.
 use crate::closing::closing_segment;
-use crate::of_operation::address_of;
-use crate::of_operation::segment_of;
-use crate::of_operation::unplayable;
+use crate::decode::read_span;
 use crate::place::Place;
 use crate::place::Turn;
 use crate::place::less;
 use crate::place::one_value;
 use crate::place::onward;
 use crate::place::stopped;
-use format::Header;
-use format::Operation;
+use crate::span::Span;
 use format::StreamPlayer;
-use operation::OperationRead;
-use operation::read_item;
-use pace::count_of;
+use writes::Segment;
 ghost use mathlib.Core.Path.{_≡_};
-ghost use Rattle.segments.specs.Turn.{limitAt, halted, closingTurn, operationTurn, turnOf, turn};
-
-// Where an operation ends at the latest: the opening's at the frames' start, unless the version is 1, and a frame's at the file's end.
-fn limit_at(file: &[u8], header: Header, place: Place) -> usize
-    ensures { λ r. ⌜ r ≡ limitAt (now (file .entry)) header place ⌝ }
-{
-    if place.opening == 0 {
-        return file.len();
-    }
-    if header.version == 1 {
-        return file.len();
-    }
-    header.frame_start
-}
+ghost use Rattle.segments.specs.Span.{ended, fitted, fromBehind, behind, spanTurn};
+ghost use Rattle.segments.specs.Turn.{halted, closingTurn, turn};
 
 // There is no next segment.
 fn halted(place: Place) -> Turn
@@ -66,59 +50,86 @@ fn closing_turn(place: Place) -> Turn
     }
 }
 
-// The writes of an operation that are left, as many as there is room for; behind it the next one is at `next`.
-fn operation_turn(
-    file: &[u8],
-    directory: u32,
-    place: Place,
-    operation: Operation,
-    next: usize,
-) -> Turn
-    ensures { λ r. ⌜ r ≡ operationTurn (now (file .entry)) directory place operation next ⌝ }
+// Whether there is no item, more writes are done than there are, or the next one's address would wrap.
+fn ended(span: Span, done: u32) -> bool
+    ensures { λ r. ⌜ r ≡ ended span done ⌝ }
+{
+    if !span.known {
+        return true;
+    }
+    if span.count < done {
+        return true;
+    }
+    0xFFFFFFFF < span.address as u64 + done as u64
+}
+
+// Of the writes that are left, those that there is room for.
+fn fitted(room: usize, rest: usize) -> usize
+    ensures { λ r. ⌜ r ≡ fitted room rest ⌝ }
+{
+    if room <= rest {
+        return room;
+    }
+    rest
+}
+
+// Where the copied bytes begin behind so many.
+fn from_behind(span: Span, done: u32) -> usize
+    ensures { λ r. ⌜ r ≡ fromBehind span done ⌝ }
+{
+    if span.copied {
+        return span.offset as usize + (span.source as usize + done as usize);
+    }
+    0
+}
+
+// The place behind so many writes; with no room behind them nothing is left.
+fn behind(place: Place, next: usize, rest: usize) -> Place
+    ensures { λ r. ⌜ r ≡ behind place next rest ⌝ }
+{
+    if place.room <= rest {
+        return stopped(place);
+    }
+    onward(place, next, rest)
+}
+
+// The writes of an item that are left, as many as there is room for.
+fn span_turn(place: Place, span: Span) -> Turn
+    ensures { λ r. ⌜ r ≡ spanTurn place span ⌝ }
 {
     let done = place.done;
-    if unplayable(operation, done) {
+    if ended(span, done) {
         return halted(place);
     }
-    let address = address_of(operation) + done;
-    let rest = less(count_of(operation) as usize, done as usize);
-    let at = less(place.total, place.room);
-    if place.room <= rest {
-        let segment = segment_of(file, directory, operation, address, done, place.room);
-        let end = stopped(place);
-        return Turn {
-            at: at,
-            segment: segment,
-            place: end,
-        };
-    }
-    let segment = segment_of(file, directory, operation, address, done, rest);
-    let behind = onward(place, next, rest);
+    let rest = (span.count - done) as usize;
+    let segment = Segment {
+        target: span.target,
+        address: span.address + done,
+        count: fitted(place.room, rest),
+        copied: span.copied,
+        value: span.value,
+        from: from_behind(span, done),
+    };
+    let next = behind(place, span.next, rest);
     Turn {
-        at: at,
+        at: less(place.total, place.room),
         segment: segment,
-        place: behind,
+        place: next,
     }
 }
 
-// The next segment. Where an operation is refused there is none.
+// The next segment. Where no item is decoded there is none.
 pub fn next_segment(file: &[u8], state: StreamPlayer, place: Place) -> Turn
     ensures { λ r. ⌜ r ≡ turn (now (file .entry)) state place ⌝ }
 {
     if place.closing {
         return closing_turn(place);
     }
-    let header = state.header;
-    let cards = state.cards;
-    let limit = limit_at(file, header, place);
-    match read_item(file, header, cards, limit, place.cursor) {
-        OperationRead::Found { operation, next } => operation_turn(
-            file,
-            header.directory_offset,
-            place,
-            operation,
-            next,
-        ),
-        OperationRead::Refused(_) => halted(place),
-    }
+    let span = read_span(
+        file,
+        state.header.version,
+        state.header.directory_offset,
+        place.cursor,
+    );
+    span_turn(place, span)
 }

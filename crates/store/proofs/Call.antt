@@ -1,12 +1,12 @@
 -- The run after a call: what `store_call` stores is what the call answers.
-use Prim.Native.Nat.{ℕ, _-_, _<_}
-use mathlib.Core.Bool.{Bool, true, false, cond, not}
+use Prim.Native.Nat.{ℕ, _-_, _≤_, _<_}
+use mathlib.Core.Bool.{Bool, true, false, cond, not, _||_}
 use mathlib.Core.List.{List, [], _∷_, _++_}
 use mathlib.Core.Path.{_≡_, refl, sym, ap, _∙_}
 use native.Mathlib.Nat.{zero-add}
 use native.Mathlib.Omega.{arith}
-use borrow.Author.Tests.{ne-eqb}
-use lib.Dec.{ltb}
+use borrow.Author.Tests.{ne-eqb, ltb-false}
+use lib.Dec.{eqb, ltb}
 use lib.ListN.{length, drop}
 use Rattle.format.specs.State.{partOf}
 use Rattle.format.specs.declared.operation.WriteRecord.{WriteRecord}
@@ -17,7 +17,9 @@ use Rattle.format.specs.declared.player.StreamPlayer.{StreamPlayer}
 use Rattle.format.specs.Checked.{Checked, ok, refused, _>>=_, _>>_}
 use Rattle.format.specs.Lent.{stored}
 use Rattle.format.specs.Player.{Played, openingBegun, frameBegun, closingAt, playFrame, playOpening, play, belongs, as25, call, runAfter}
-use Rattle.format.proofs.Checks.{refused-not-ok, through, passed-check, ok-is}
+use Rattle.format.specs.Stream.{openingLimit}
+use Rattle.format.proofs.Accepted.{opening-limit}
+use Rattle.format.proofs.Checks.{refused-not-ok, through, passed-test, passed-check, ok-is, or-false}
 use Rattle.agreement.proofs.Planned.{records-fit}
 use Rattle.segments.specs.declared.place.Place.{Place}
 use Rattle.begin.specs.Begin.{nowhere, frameAt, openingPlace, betweenPlace, partPlace, firstPlace}
@@ -27,7 +29,20 @@ use Rattle.store.proofs.Storing.{stored-none}
 use Rattle.store.proofs.Frames.{begun-stored, under-way, opening-stored}
 use Rattle.store.proofs.Closing.{closing-stored}
 
-module _ (file : List ℕ) (state : StreamPlayer) (run : List WriteRecord) (some : 0 < length run) where
+-- the opening of a state that belongs to a file ends in it
+opening-within : (state : StreamPlayer) (file : List ℕ) → belongs state file ≡ ok tt → openingLimit (state .header) file ≤ length file
+unfolding belongs
+opening-within state file e =
+    let header = state .header in
+    let before : Bool = ltb (length file) (state .progress .cursor) || ltb (length file) (header .«initial_start») in
+    let first : Bool = ltb (length file) (header .«frame_start») in
+    let total = passed-test 25 0 (not (eqb (length file) (header .«total_size»))) e in
+    let known = passed-test 25 0 (eqb (header .version) 0 || ltb 4 (header .version) || ltb 8 (state .cards .count)) (total .1) in
+    let places = passed-test 25 0 (before || first || ltb (length file) (header .«directory_offset»)) (known .1) in
+    let within = or-false before first (or-false (before || first) (ltb (length file) (header .«directory_offset»)) (places .0) .0) .1 in
+    opening-limit header file (ltb-false _ _ within) .1
+
+module _ (file : List ℕ) (state : StreamPlayer) (short : openingLimit (state .header) file ≤ length file) (run : List WriteRecord) (some : 0 < length run) where
   abbrev total : ℕ
   total = length run
 
@@ -47,11 +62,11 @@ module _ (file : List ℕ) (state : StreamPlayer) (run : List WriteRecord) (some
   gives-opening : (p : Progress) → Gives (playOpening state file total (openingBegun (state .header) p)) (openingPlace file (state .header) (state .header .«initial_count») (state .header .«initial_start») 0 total)
   gives-opening p a e =
       let count : state .header .«initial_count» ≡ state .header .«initial_count» - 0 = omega arith in
-      ap (λ (n : ℕ). storedFrom file state (openingPlace file (state .header) n (state .header .«initial_start») 0 total) run) count ∙ opening-stored file state total (openingBegun (state .header) p) a run e some refl
+      ap (λ (n : ℕ). storedFrom file state (openingPlace file (state .header) n (state .header .«initial_start») 0 total) run) count ∙ opening-stored file state total short (openingBegun (state .header) p) a run e some refl
 
   gives-part : (part : Part) → Gives (play state file total (state .progress) part) (partPlace file state total part)
   unfolding play betweenPlace
-  gives-part Opening a e = opening-stored file state total (state .progress) a run e some refl
+  gives-part Opening a e = opening-stored file state total short (state .progress) a run e some refl
   gives-part Frame a e = under-way file state total (state .progress) a e run some refl
   gives-part Closing a e = closing-stored file state total (state .progress) a run e some refl
   gives-part Between a e =
@@ -69,23 +84,24 @@ checked-25 : (x : Checked Played) (a : Played) → as25 x ≡ ok a → x ≡ ok 
 checked-25 (ok b) a e = e
 checked-25 (refused number place) a e = absurd (refused-not-ok e)
 
--- a call that takes some plays the part that is under way
-plays : (file : List ℕ) (state : StreamPlayer) (room : ℕ) (a : Played) → call state file room ≡ ok a → 0 < length (a .records) → play state file room (state .progress) (partOf (state .progress .part)) ≡ ok a
+-- a call that takes some is of a state that belongs to the file, and plays the part that is under way
+plays : (file : List ℕ) (state : StreamPlayer) (room : ℕ) (a : Played) → call state file room ≡ ok a → 0 < length (a .records) → (belongs state file ≡ ok tt) × (play state file room (state .progress) (partOf (state .progress .part)) ≡ ok a)
 unfolding call
 plays file state room a e some = go (state .progress .finished) e
   where
-    go : (b : Bool) → cond b (ok (record { records = []; complete = true; next = state })) (as25 (belongs state file >> play state file room (state .progress) (partOf (state .progress .part)))) ≡ ok a → play state file room (state .progress) (partOf (state .progress .part)) ≡ ok a
+    go : (b : Bool) → cond b (ok (record { records = []; complete = true; next = state })) (as25 (belongs state file >> play state file room (state .progress) (partOf (state .progress .part)))) ≡ ok a → (belongs state file ≡ ok tt) × (play state file room (state .progress) (partOf (state .progress .part)) ≡ ok a)
     go true e =
         let none : 0 ≡ length (a .records) = ap (λ (x : Played). length (x .records)) (ok-is e) in
         absurd (omega arith)
-    go false e = passed-check (belongs state file) (checked-25 _ a e) .1
+    go false e = passed-check (belongs state file) (checked-25 _ a e)
 
 taken-stored : (file : List ℕ) (state : StreamPlayer) (run : List WriteRecord) (a : Played) → call state file (length run) ≡ ok a → 0 < length (a .records) → storedCall file state (length (a .records)) run ≡ stored (a .records) run
 unfolding storedCall firstPlace
 taken-stored file state run a e some =
     let fits = records-fit state file (length run) a e in
     let front : length run - length run ≡ 0 = omega arith in
-    rw (ne-eqb (length (a .records)) 0 (λ (z : length (a .records) ≡ 0). omega arith)) (gives-part file state run (omega (arith, fits)) (partOf (state .progress .part)) a (plays file state (length run) a e some) ∙ ap (λ (k : ℕ). inserted k (a .records) run) front ∙ ap (λ (k : ℕ). a .records ++ drop k run) (zero-add (length (a .records))))
+    let played = plays file state (length run) a e some in
+    rw (ne-eqb (length (a .records)) 0 (λ (z : length (a .records) ≡ 0). omega arith)) (gives-part file state (opening-within state file (played .0)) run (omega (arith, fits)) (partOf (state .progress .part)) a (played .1) ∙ ap (λ (k : ℕ). inserted k (a .records) run) front ∙ ap (λ (k : ℕ). a .records ++ drop k run) (zero-add (length (a .records))))
 
 -- an answer's records are stored in front, and no later one is touched
 pub call-stored : (file : List ℕ) (state : StreamPlayer) (run : List WriteRecord) (a : Played) → call state file (length run) ≡ ok a → storedCall file state (length (a .records)) run ≡ runAfter run (call state file (length run))

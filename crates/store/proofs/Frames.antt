@@ -3,6 +3,7 @@ use Prim.Native.Nat.{ℕ, zero, suc, _+_, _-_, _≤_, _<_}
 use mathlib.Core.Bool.{Bool, true, false, cond, not}
 use mathlib.Core.List.{List, [], _++_, append-nil}
 use mathlib.Core.Path.{_≡_, refl, sym, ap, subst, _∙_}
+use native.Mathlib.Nat.{le-refl}
 use native.Mathlib.Omega.{arith}
 use borrow.Author.Tests.{ne-eqb, eqb-false}
 use lib.Dec.{eqb, ltb}
@@ -20,7 +21,8 @@ use Rattle.format.proofs.Checks.{through, passed-test, ok-is}
 use Rattle.segments.specs.declared.place.Place.{Place}
 use Rattle.begin.specs.Begin.{nowhere, framePlace, frameAt, openingPlace}
 use Rattle.segments.specs.Place.{onward}
-use Rattle.segments.specs.Turn.{limitAt, turn, operationTurn}
+use Rattle.segments.specs.Turn.{turn, operationTurn}
+use Rattle.segments.proofs.Decoded.{turns}
 use Rattle.writes.specs.Segment.{inserted}
 use Rattle.writes.proofs.Lists.{inserted-none}
 use Rattle.store.specs.Stored.{storedFrom}
@@ -37,8 +39,8 @@ module _ (file : List ℕ) (state : StreamPlayer) (total : ℕ) where
       record { closing = false; left = left; opening = 0; after = after; cursor = cursor; done = done; total = total; room = room }
 
   frame-turns : (after left cursor done room : ℕ) (item : Item) → itemAt (settingIn state file) file (length file) cursor ≡ ok item → turn file state (frameRest after (suc left) cursor done room) ≡ operationTurn file (state .header .«directory_offset») (frameRest after (suc left) cursor done room) (item .operation) (item .next)
-  unfolding turn limitAt
-  frame-turns after left cursor done room item e = rw e
+  frame-turns after left cursor done room item e =
+      turns file state (length file) (frameRest after (suc left) cursor done room) item (le-refl (length file)) refl e
 
   frame-goes : (after left cursor done room next taken : ℕ) → onward (frameRest after (suc left) cursor done room) next taken ≡ frameRest after left next 0 (room - taken)
   frame-goes after left cursor done room next taken =
@@ -71,9 +73,9 @@ module _ (file : List ℕ) (state : StreamPlayer) (total : ℕ) where
   openingRest frame (suc left) cursor done room =
       record { closing = false; left = suc left + frame .left; opening = suc left; after = frame .cursor; cursor = cursor; done = done; total = total; room = room }
 
-  opening-turns : (frame : Place) (left cursor done room : ℕ) (item : Item) → itemAt (settingIn state file) file (openingLimit (state .header) file) cursor ≡ ok item → turn file state (openingRest frame (suc left) cursor done room) ≡ operationTurn file (state .header .«directory_offset») (openingRest frame (suc left) cursor done room) (item .operation) (item .next)
-  unfolding turn limitAt
-  opening-turns frame left cursor done room item e = rw (ne-eqb (suc left) 0 (λ (z : suc left ≡ 0). omega arith), e)
+  opening-turns : openingLimit (state .header) file ≤ length file → (frame : Place) (left cursor done room : ℕ) (item : Item) → itemAt (settingIn state file) file (openingLimit (state .header) file) cursor ≡ ok item → turn file state (openingRest frame (suc left) cursor done room) ≡ operationTurn file (state .header .«directory_offset») (openingRest frame (suc left) cursor done room) (item .operation) (item .next)
+  opening-turns short frame left cursor done room item e =
+      turns file state (openingLimit (state .header) file) (openingRest frame (suc left) cursor done room) item short refl e
 
   opening-goes : (frame : Place) (left cursor done room next taken : ℕ) → onward (openingRest frame (suc left) cursor done room) next taken ≡ openingRest frame left next 0 (room - taken)
   opening-goes frame zero cursor done room next taken =
@@ -84,9 +86,9 @@ module _ (file : List ℕ) (state : StreamPlayer) (total : ℕ) where
       let less : suc (suc left) - 1 ≡ suc left = omega arith in
       rw (ne-eqb (suc (suc left)) 1 (λ (z : suc (suc left) ≡ 1). omega arith), fewer, less)
 
-  abbrev opening-part : Place → Part file state (openingLimit (state .header) file) total
-  opening-part frame =
-      record { place = openingRest frame; some = λ left cursor done room. omega arith; done-is = λ left cursor done room. refl; room-is = λ left cursor done room. refl; total-is = λ left cursor done room. refl; turns = opening-turns frame; goes = opening-goes frame }
+  abbrev opening-part : openingLimit (state .header) file ≤ length file → Place → Part file state (openingLimit (state .header) file) total
+  opening-part short frame =
+      record { place = openingRest frame; some = λ left cursor done room. omega arith; done-is = λ left cursor done room. refl; room-is = λ left cursor done room. refl; total-is = λ left cursor done room. refl; turns = opening-turns short frame; goes = opening-goes frame }
 
   step-all : (limit left room : ℕ) (p : Progress) (g : Gathered) (step : Step state file limit left room p g) → 0 < g .room → ((m : Gathered) (room′ : ℕ) → gathered state file limit left room′ (step .next) ≡ ok m → 0 < m .room → (m .progress .«operation_index» ≡ step .next .«operation_index» + left) × (m .progress .«operation_count» ≡ step .next .«operation_count»)) → (g .progress .«operation_index» ≡ p .«operation_index» + suc left) × (g .progress .«operation_count» ≡ p .«operation_count»)
   step-all limit left room p g step some later =
@@ -118,9 +120,9 @@ module _ (file : List ℕ) (state : StreamPlayer) (total : ℕ) where
       step-all limit left (suc others) p g step some (λ m room′ is some′. taken-all limit left room′ (step .next) m is some′)
 
   -- what is stored for the opening, where `more` is what the frame gives
-  opening-then : (room : ℕ) (p : Progress) (g : Gathered) (frame : Place) (more run : List WriteRecord) → gathered state file (openingLimit (state .header) file) (operationsLeft p) room p ≡ ok g → 0 < room → room ≤ total → length run ≡ total → ((run′ : List WriteRecord) → 0 < g .room → g .room ≤ total → length run′ ≡ total → storedFrom file state (openingRest frame 0 0 0 (g .room)) run′ ≡ inserted (total - g .room) more run′) → (g .room ≡ 0 → more ≡ []) → storedFrom file state (openingRest frame (operationsLeft p) (p .cursor) (p .«write_index») room) run ≡ inserted (total - room) (g .records ++ more) run
-  opening-then room p g frame more run e some within long follows none =
-      part-stored file state (openingLimit (state .header) file) total (opening-part frame) (operationsLeft p) room p g more run e some within long (λ cursor done run′. follows run′) none
+  opening-then : openingLimit (state .header) file ≤ length file → (room : ℕ) (p : Progress) (g : Gathered) (frame : Place) (more run : List WriteRecord) → gathered state file (openingLimit (state .header) file) (operationsLeft p) room p ≡ ok g → 0 < room → room ≤ total → length run ≡ total → ((run′ : List WriteRecord) → 0 < g .room → g .room ≤ total → length run′ ≡ total → storedFrom file state (openingRest frame 0 0 0 (g .room)) run′ ≡ inserted (total - g .room) more run′) → (g .room ≡ 0 → more ≡ []) → storedFrom file state (openingRest frame (operationsLeft p) (p .cursor) (p .«write_index») room) run ≡ inserted (total - room) (g .records ++ more) run
+  opening-then short room p g frame more run e some within long follows none =
+      part-stored file state (openingLimit (state .header) file) total (opening-part short frame) (operationsLeft p) room p g more run e some within long (λ cursor done run′. follows run′) none
 
   -- a frame that begins, behind an opening or not
   frame-begun : (cursor index after room : ℕ) (p q : Progress) (a : Played) → frameBegun file cursor index p ≡ ok q → playFrame state file room q ≡ ok a → (run : List WriteRecord) → 0 < room → room ≤ total → length run ≡ total → storedFrom file state (frameRest after (frameAt file cursor total .left) (frameAt file cursor total .cursor) 0 room) run ≡ inserted (total - room) (a .records) run
@@ -153,16 +155,16 @@ module _ (file : List ℕ) (state : StreamPlayer) (total : ℕ) where
   first = frameAt file (state .header .«frame_start») total
 
   -- operations are left, so the room is used up; or all are done, and the frame follows
-  opening-rest : (p : Progress) (a : Played) (run : List WriteRecord) → playOpening state file total p ≡ ok a → 0 < total → length run ≡ total → storedFrom file state (openingRest first (operationsLeft p) (p .cursor) (p .«write_index») total) run ≡ inserted (total - total) (a .records) run
+  opening-rest : openingLimit (state .header) file ≤ length file → (p : Progress) (a : Played) (run : List WriteRecord) → playOpening state file total p ≡ ok a → 0 < total → length run ≡ total → storedFrom file state (openingRest first (operationsLeft p) (p .cursor) (p .«write_index») total) run ≡ inserted (total - total) (a .records) run
   unfolding playOpening
-  opening-rest p a run e some long =
+  opening-rest short p a run e some long =
       let taken = through (gathered state file (openingLimit (state .header) file) (operationsLeft p) total p) _ e in
       go (taken .value) (taken .is) (eqb (operationsLeft (taken .value .progress)) 0) refl (taken .then)
     where
       go : (g : Gathered) → gathered state file (openingLimit (state .header) file) (operationsLeft p) total p ≡ ok g → (done : Bool) → eqb (operationsLeft (g .progress)) 0 ≡ done → cond (not done) (ok (record { records = g .records; complete = false; next = moved state (g .progress) })) (frameBegun file (state .header .«frame_start») 0 (g .progress) >>= λ (frame : Progress). playFrame state file (g .room) frame >>= λ (more : Played). ok (record { records = g .records ++ more .records; complete = more .complete; next = more .next })) ≡ ok a → storedFrom file state (openingRest first (operationsLeft p) (p .cursor) (p .«write_index») total) run ≡ inserted (total - total) (a .records) run
       go g is false left e =
           let records : g .records ≡ a .records = ap (λ (x : Played). x .records) (ok-is e) in
-          opening-then total p g first [] run is some (omega arith) long (λ run′ some′ within′ long′. absurd (still g is left some′)) (λ z. refl) ∙ ap (λ (l : List WriteRecord). inserted (total - total) l run) (append-nil (g .records) ∙ records)
+          opening-then short total p g first [] run is some (omega arith) long (λ run′ some′ within′ long′. absurd (still g is left some′)) (λ z. refl) ∙ ap (λ (l : List WriteRecord). inserted (total - total) l run) (append-nil (g .records) ∙ records)
         where
           still : (g : Gathered) → gathered state file (openingLimit (state .header) file) (operationsLeft p) total p ≡ ok g → eqb (operationsLeft (g .progress)) 0 ≡ false → 0 < g .room → ⊥
           still g is left some′ =
@@ -173,11 +175,11 @@ module _ (file : List ℕ) (state : StreamPlayer) (total : ℕ) where
           let begun = through (frameBegun file (state .header .«frame_start») 0 (g .progress)) _ e in
           let more = through (playFrame state file (g .room) (begun .value)) _ (begun .then) in
           let records : g .records ++ more .value .records ≡ a .records = ap (λ (x : Played). x .records) (ok-is (more .then)) in
-          opening-then total p g first (more .value .records) run is some (omega arith) long (λ run′ some′ within′ long′. frame-begun (state .header .«frame_start») 0 (first .cursor) (g .room) (g .progress) (begun .value) (more .value) (begun .is) (more .is) run′ some′ within′ long′) (λ full. frame-none (g .room) (begun .value) (more .value) full (more .is)) ∙ ap (λ (l : List WriteRecord). inserted (total - total) l run) records
+          opening-then short total p g first (more .value .records) run is some (omega arith) long (λ run′ some′ within′ long′. frame-begun (state .header .«frame_start») 0 (first .cursor) (g .room) (g .progress) (begun .value) (more .value) (begun .is) (more .is) run′ some′ within′ long′) (λ full. frame-none (g .room) (begun .value) (more .value) full (more .is)) ∙ ap (λ (l : List WriteRecord). inserted (total - total) l run) records
 
-  pub opening-stored : (p : Progress) (a : Played) (run : List WriteRecord) → playOpening state file total p ≡ ok a → 0 < total → length run ≡ total → storedFrom file state (openingPlace file (state .header) (operationsLeft p) (p .cursor) (p .«write_index») total) run ≡ inserted (total - total) (a .records) run
+  pub opening-stored : openingLimit (state .header) file ≤ length file → (p : Progress) (a : Played) (run : List WriteRecord) → playOpening state file total p ≡ ok a → 0 < total → length run ≡ total → storedFrom file state (openingPlace file (state .header) (operationsLeft p) (p .cursor) (p .«write_index») total) run ≡ inserted (total - total) (a .records) run
   unfolding openingPlace
-  opening-stored p a run e some long = go (operationsLeft p) refl (opening-rest p a run e some long)
+  opening-stored short p a run e some long = go (operationsLeft p) refl (opening-rest short p a run e some long)
     where
       go : (left : ℕ) → operationsLeft p ≡ left → storedFrom file state (openingRest first (operationsLeft p) (p .cursor) (p .«write_index») total) run ≡ inserted (total - total) (a .records) run → storedFrom file state (openingPlace file (state .header) (operationsLeft p) (p .cursor) (p .«write_index») total) run ≡ inserted (total - total) (a .records) run
       go zero none rest = rw none (ap (λ (x : Place). storedFrom file state x run) (frame-place (state .header .«frame_start»)) ∙ rw none at rest)

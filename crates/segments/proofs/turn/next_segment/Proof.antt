@@ -1,6 +1,10 @@
 -- `segments::turn::next_segment` meets its contract. Assumes nothing.
-use borrow.Author.Needs.{needs}
+use mathlib.Core.Path.{sym, _∙_}
+use Rattle.format.proofs.Checks.{cond-false}
+use Rattle.segments.specs.Decoded.{decoded}
 use Rattle.segments.specs.Turn.{turn}
+use Rattle.segments.proofs.Spans.{span-turns}
+use borrow.Author.Needs.{needs}
 use Rattle.segments.proofs.turn.next_segment.Statement.{statement}
 use Rattle.segments.proofs.turn.next_segment.Tie as tie
 
@@ -11,43 +15,20 @@ returns : tie.Need-returns
 unfolding turn
 returns c = simp (c .before .if1 .taken, ← (c .closing-turn .ensures))
 
-limit-at-requires : tie.Need-limit-at-requires
-limit-at-requires c κs = search needs
+read-span-requires : tie.Need-read-span-requires
+read-span-requires c κs = search needs
 
-read-item-requires : tie.Need-read-item-requires
-read-item-requires c κs = search needs
-
-enum-known-operation : tie.Need-enum-known-operation
-enum-known-operation c = search needs
-
-operation-turn-requires : tie.Need-operation-turn-requires
-operation-turn-requires c κs = search needs
-
-enum-told : tie.Need-enum-told
-enum-told c = search needs
-
-halted-requires : tie.Need-halted-requires
-halted-requires c κs = search needs
+span-turn-requires : tie.Need-span-turn-requires
+span-turn-requires c κs = search needs
 
 returns-2 : tie.Need-returns-2
 unfolding turn
-returns-2 c = simp (c .before .before .before .before .before .before .before .before .if1 .left, ← (c .before .before .before .before .before .limit-at .ensures), ← (c .before .before .before .before .read-item .ensures), c .before .before .operation .given .1, ← (c .operation-turn .ensures))
-
-returns-3 : tie.Need-returns-3
-unfolding turn
-returns-3 c = simp (c .before .before .before .before .before .before .before .if1 .left, ← (c .before .before .before .before .limit-at .ensures), ← (c .before .before .before .read-item .ensures), c .before .enum-told .given .1, ← (c .halted .ensures))
+returns-2 c =
+    let e = c .before .before in
+    let a = e .before .before .args in
+    c .span-turn .ensures ∙ span-turns (a .file .now) (a .state .header .«directory_offset») (a .place) (c .before .read-span .result) (decoded (a .file .now) (a .state .header .version) (a .place .cursor)) (c .before .read-span .ensures) ∙ sym (cond-false (a .place .closing) _ _ (e .if1 .left))
 
 pub next-segment-spec : {M : Type 1} → statement M
 next-segment-spec =
     tie.close
-    (tie.spec
-    closing-turn-requires
-    returns
-    limit-at-requires
-    read-item-requires
-    enum-known-operation
-    operation-turn-requires
-    enum-told
-    halted-requires
-    returns-2
-    returns-3)
+    (tie.spec closing-turn-requires returns read-span-requires span-turn-requires returns-2)

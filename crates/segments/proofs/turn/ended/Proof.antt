@@ -1,0 +1,27 @@
+-- `segments::turn::ended` meets its contract. Assumes nothing.
+use borrow.Author.Tests.{lt-ltb, le-ltb}
+use Rattle.segments.specs.Span.{ended}
+use borrow.Author.Needs.{needs}
+use Rattle.segments.proofs.turn.ended.Statement.{statement}
+use Rattle.segments.proofs.turn.ended.Tie as tie
+
+returns : tie.Need-returns
+unfolding ended
+returns c = search needs
+
+returns-2 : tie.Need-returns-2
+unfolding ended
+returns-2 c = simp (c .before .before .if1 .left, lt-ltb _ _ (c .if2 .taken))
+
+cast-result : tie.Need-cast-result
+cast-result c = search needs
+
+add-result : tie.Need-add-result
+add-result c = search needs
+
+returns-3 : tie.Need-returns-3
+unfolding ended
+returns-3 c = simp (c .before .before .before .if1 .left, le-ltb _ _ (c .before .if2 .left))
+
+pub ended-spec : {M : Type 1} → statement M
+ended-spec = tie.close (tie.spec returns returns-2 cast-result add-result returns-3)

@@ -1,0 +1,69 @@
+-- `segments::turn::span_turn` meets its contract. Assumes nothing.
+use native.Mathlib.Omega.{arith}
+use mathlib.Core.Path.{sym, _∙_}
+use Rattle.segments.specs.Span.{spanTurn}
+use Rattle.segments.proofs.Spans.{goes-on}
+use borrow.Author.Needs.{needs}
+use Rattle.segments.proofs.turn.span_turn.Statement.{statement}
+use Rattle.segments.proofs.turn.span_turn.Tie as tie
+
+ended-requires : tie.Need-ended-requires
+ended-requires c κs = search needs
+
+halted-requires : tie.Need-halted-requires
+halted-requires c κs = search needs
+
+returns : tie.Need-returns
+unfolding spanTurn
+returns c = simp (← (c .before .before .ended .ensures), c .before .if1 .taken, ← (c .halted .ensures))
+
+sub-rest : tie.Need-sub-rest
+sub-rest c =
+    let e = c .before in
+    let a = e .before .before .args in
+    omega (arith, goes-on (a .span) (a .place .done) (sym (e .before .ended .ensures) ∙ e .if1 .left) .0)
+
+cast-rest : tie.Need-cast-rest
+cast-rest c = search needs
+
+add-t8 : tie.Need-add-t8
+add-t8 c =
+    let e = c .before .before in
+    let a = e .before .before .args in
+    omega (arith, goes-on (a .span) (a .place .done) (sym (e .before .ended .ensures) ∙ e .if1 .left) .1)
+
+fitted-requires : tie.Need-fitted-requires
+fitted-requires c κs = search needs
+
+from-behind-requires : tie.Need-from-behind-requires
+from-behind-requires c κs = search needs
+
+behind-requires : tie.Need-behind-requires
+behind-requires c κs = search needs
+
+less-requires : tie.Need-less-requires
+less-requires c κs = search needs
+
+returns-2 : tie.Need-returns-2
+unfolding spanTurn
+returns-2 c =
+    let from = c .before .before in
+    let fits = from .before in
+    let e = fits .before .before .before in
+    simp (← (e .before .ended .ensures), e .if1 .left, ← (fits .fitted .ensures), ← (from .from-behind .ensures), ← (c .before .behind .ensures), ← (c .less .ensures))
+
+pub span-turn-spec : {M : Type 1} → statement M
+span-turn-spec =
+    tie.close
+    (tie.spec
+    ended-requires
+    halted-requires
+    returns
+    sub-rest
+    cast-rest
+    add-t8
+    fitted-requires
+    from-behind-requires
+    behind-requires
+    less-requires
+    returns-2)
