@@ -38,11 +38,14 @@ abbrev pub openingAt : (size : ℕ) → Header → Current
 openingAt size header =
     record { none = false; part = partNumber Opening; limit = openingEnd size (header .version) (header .«frame_start»); cursor = header .«initial_start»; «operation_index» = 0; «operation_count» = header .«initial_count»; «write_index» = 0; «frame_index» = 0 }
 
--- a frame that begins, counted from 1, whose count stands at a place
+-- a frame that begins, counted from 1, behind its count that stands at a place
+abbrev pub frameFrom : List ℕ → (at frame : ℕ) → Current
+frameFrom file at frame =
+    record { none = false; part = partNumber Frame; limit = length file; cursor = at + 2; «operation_index» = 0; «operation_count» = be 2 file at; «write_index» = 0; «frame_index» = frame }
+
+-- where the file has the count
 unfoldable pub frameAt : List ℕ → (at frame : ℕ) → Current
-frameAt file at frame =
-    cond (ltb (length file) (at + 2)) noCurrent
-    (record { none = false; part = partNumber Frame; limit = length file; cursor = at + 2; «operation_index» = 0; «operation_count» = be 2 file at; «write_index» = 0; «frame_index» = frame })
+frameAt file at frame = cond (ltb (length file) (at + 2)) noCurrent (frameFrom file at frame)
 
 -- between vsyncs the next one begins
 unfoldable pub currentBetween : List ℕ → Header → Progress → Current

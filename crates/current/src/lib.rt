@@ -9,7 +9,6 @@ ghost use mathlib.Core.Path.{_≡_};
 ghost use Prim.Native.Nat.{_+_, _≤_};
 ghost use mathlib.Core.Bool.{_&&_, not, cond};
 ghost use lib.Dec.{ltb};
-ghost use lib.ListN.{length};
 ghost use Rattle.current.specs.Current.{noCurrent, goingOn, openingEnd, underWay, openingAt, frameAt, currentBetween, currentOf};
 ghost use Rattle.current.specs.Step.{noStep, stepTo};
 

@@ -1,3 +1,4 @@
+-- `current::current_between` meets its contract. Assumes nothing.
 use borrow.Author.Needs.{needs}
 use lib.Dec.{ltb}
 use mathlib.Core.Path.{sym, _∙_}

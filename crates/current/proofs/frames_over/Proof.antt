@@ -1,3 +1,4 @@
+-- `current::frames_over` meets its contract. Assumes nothing.
 use borrow.Author.Tests.{le-ltb, lt-ltb}
 use Rattle.current.proofs.frames_over.Statement.{statement}
 use Rattle.current.proofs.frames_over.Tie as tie

@@ -1,3 +1,4 @@
+-- `current::next_frame` meets its contract. Assumes nothing.
 use borrow.Author.Needs.{needs}
 use borrow.Author.Tests.{le-ltb, lt-ltb}
 use Rattle.current.proofs.next_frame.Statement.{statement}

@@ -1,3 +1,4 @@
+-- `current::next_place` meets its contract. Assumes nothing.
 use borrow.Author.Tests.{le-ltb, lt-ltb}
 use Rattle.current.proofs.next_place.Statement.{statement}
 use Rattle.current.proofs.next_place.Tie as tie

@@ -1,3 +1,4 @@
+-- `current::opening_at` meets its contract. Assumes nothing.
 use borrow.Author.Needs.{needs}
 use Rattle.current.proofs.opening_at.Statement.{statement}
 use Rattle.current.proofs.opening_at.Tie as tie

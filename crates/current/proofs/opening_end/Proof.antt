@@ -1,3 +1,4 @@
+-- `current::opening_end` meets its contract. Assumes nothing.
 use borrow.Author.Tests.{eq-eqb, le-ltb, lt-ltb, ne-eqb}
 use Rattle.current.specs.Current.{openingEnd}
 use Rattle.current.proofs.opening_end.Statement.{statement}
