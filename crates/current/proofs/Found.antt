@@ -80,3 +80,18 @@ module _ (file : List ℕ) (header : Header) (p : Progress) (c : Current) where
 
   pub current-found : (cards : ℕ) → c ≡ currentOf file header cards p → c .none ≡ false → Found file header cards p c
   current-found cards e there = only-some there (either-found cards e)
+
+  way-there : Way file header p c → c .none ≡ false
+  way-there (opens between on e) = rw e
+  way-there (next between on more long e) = rw e
+  way-there (again between on more repeat long e) = rw e
+  way-there (opening between first e) = rw e
+  way-there (frame between first framed on e) = rw e
+
+  -- what is not all zeros is a part
+  pub current-there : (cards : ℕ) → c ≡ currentOf file header cards p → (c ≡ noCurrent → ⊥) → c .none ≡ false
+  current-there cards e other = go (either-found cards e)
+    where
+      go : Either (Found file header cards p c) c → c .none ≡ false
+      go (none h) = absurd (other h)
+      go (some found) = way-there (found .way)

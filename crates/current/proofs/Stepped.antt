@@ -42,6 +42,20 @@ step-taken c left cursor writes plain others count step e taken = go (eqb left 0
     go true d true f h = absurd (false≢true (rw h at taken))
     go true d false f h = to-end d f h
 
+-- what it says of its writes
+pub record Writes (c : Current) (plain others count : ℕ) (step : Step) : Type 0 where
+  pub from : step .from ≡ c .cursor
+  pub plainly : step .plain ≡ plain
+  pub otherwise : step .others ≡ others
+  pub counted : step .count ≡ count
+
+pub taken-writes : (c : Current) (left cursor writes plain others count : ℕ) (step : Step) → step ≡ stepTo c left cursor writes plain others count → step .taken ≡ true → Writes c plain others count step
+taken-writes c left cursor writes plain others count step e taken = go (step-taken c left cursor writes plain others count step e taken)
+  where
+    go : Taken c left cursor writes plain others count step → Writes c plain others count step
+    go (within more h) = rw h (record { from = refl; plainly = refl; otherwise = refl; counted = refl })
+    go (to-end over part h) = rw h (record { from = refl; plainly = refl; otherwise = refl; counted = refl })
+
 -- THE PART
 
 -- where the operations of a part end
