@@ -1,6 +1,6 @@
 -- A step that is taken is the call: what the call gathers of its part is what the step says.
 use Prim.Native.Nat.{ℕ, _-_, _≤_}
-use mathlib.Core.Bool.{Bool, true, false, cond, not, true≢false, false≢true}
+use mathlib.Core.Bool.{Bool, true, false, cond, true≢false, false≢true}
 use mathlib.Core.List.{List}
 use mathlib.Core.Path.{_≡_, refl, sym, ap, _∙_}
 use native.Mathlib.Omega.{arith}
@@ -22,7 +22,7 @@ use Rattle.agreement.proofs.Planned.{planned-is}
 use Rattle.current.specs.declared.Current.{Current}
 use Rattle.current.specs.declared.Step.{Step}
 use Rattle.current.specs.Current.{currentOf, playing}
-use Rattle.current.specs.Step.{noStep, stepWithin, stepToEnd, stepTo, stepped}
+use Rattle.current.specs.Step.{noStep, stepWithin, stepToEnd, stepEnding, stepTo, stepped}
 use Rattle.current.proofs.Calls.{current-call}
 use Rattle.current.proofs.Going.{Goes, in-opening, in-frame, Going, current-going}
 
@@ -34,10 +34,10 @@ pub data Taken (c : Current) (left cursor writes plain others count : ℕ) (step
   to-end : eqb left 0 ≡ true → eqb (c .part) (partNumber Opening) ≡ false → step ≡ stepToEnd c cursor plain others count → Taken c left cursor writes plain others count step
 
 pub step-taken : (c : Current) (left cursor writes plain others count : ℕ) (step : Step) → step ≡ stepTo c left cursor writes plain others count → step .taken ≡ true → Taken c left cursor writes plain others count step
-unfolding stepTo
+unfolding stepTo stepEnding
 step-taken c left cursor writes plain others count step e taken = go (eqb left 0) refl (eqb (c .part) (partNumber Opening)) refl e
   where
-    go : (done : Bool) → eqb left 0 ≡ done → (first : Bool) → eqb (c .part) (partNumber Opening) ≡ first → step ≡ cond (not done) (stepWithin c left cursor writes plain others count) (cond first noStep (stepToEnd c cursor plain others count)) → Taken c left cursor writes plain others count step
+    go : (done : Bool) → eqb left 0 ≡ done → (first : Bool) → eqb (c .part) (partNumber Opening) ≡ first → step ≡ cond done (cond first noStep (stepToEnd c cursor plain others count)) (stepWithin c left cursor writes plain others count) → Taken c left cursor writes plain others count step
     go false d first f h = within d h
     go true d true f h = absurd (false≢true (rw h at taken))
     go true d false f h = to-end d f h

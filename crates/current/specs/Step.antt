@@ -1,6 +1,6 @@
 -- What a call takes of the part that it goes on with, and what it changes in the progress.
 use Prim.Native.Nat.{ℕ, _-_}
-use mathlib.Core.Bool.{true, false, cond, not}
+use mathlib.Core.Bool.{true, false, cond}
 use lib.Dec.{eqb}
 use Rattle.format.specs.declared.player.Part.the-variants.{Between, Opening}
 use Rattle.format.specs.declared.player.Progress.{Progress}
@@ -23,11 +23,14 @@ abbrev pub stepToEnd : Current → (cursor plain others count : ℕ) → Step
 stepToEnd c cursor plain others count =
     record { taken = true; from = c .cursor; plain = plain; others = others; count = count; complete = true; part = partNumber Between; cursor = cursor; «operation_index» = 0; «operation_count» = 0; «write_index» = 0; «frame_index» = c .«frame_index» }
 
+-- no operation stays; the call that ends the opening is not taken
+unfoldable pub stepEnding : Current → (cursor plain others count : ℕ) → Step
+stepEnding c cursor plain others count = cond (eqb (c .part) (partNumber Opening)) noStep (stepToEnd c cursor plain others count)
+
 -- so many operations of the part stay, the next one at a cursor with so many writes made
 unfoldable pub stepTo : Current → (left cursor writes plain others count : ℕ) → Step
 stepTo c left cursor writes plain others count =
-    cond (not (eqb left 0)) (stepWithin c left cursor writes plain others count)
-    (cond (eqb (c .part) (partNumber Opening)) noStep (stepToEnd c cursor plain others count))
+    cond (eqb left 0) (stepEnding c cursor plain others count) (stepWithin c left cursor writes plain others count)
 
 -- the progress behind a call that is taken
 abbrev pub stepped : Progress → Step → Progress

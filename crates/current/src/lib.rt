@@ -10,7 +10,7 @@ ghost use Prim.Native.Nat.{_+_, _≤_};
 ghost use mathlib.Core.Bool.{_&&_, not, cond};
 ghost use lib.Dec.{ltb};
 ghost use Rattle.current.specs.Current.{noCurrent, goingOn, openingEnd, underWay, openingAt, frameAt, currentBetween, currentOf};
-ghost use Rattle.current.specs.Step.{noStep, stepTo};
+ghost use Rattle.current.specs.Step.{noStep, stepEnding, stepTo};
 
 // `none` where the call has no such part: the player is finished, the state belongs to another file, the closing writes come, or a
 // frame's count passes the file's end. The next operation stands at the cursor, and no operation goes past the limit.
@@ -229,36 +229,10 @@ pub fn no_step() -> Step
     }
 }
 
-// The step that leaves so many operations of the part, the next one at a cursor with so many writes made. The call that ends the
-// opening is not taken, because it goes on with frame 1.
-pub fn step_to(
-    current: Current,
-    left: u32,
-    cursor: usize,
-    writes: u32,
-    plain: u32,
-    others: usize,
-    count: usize,
-) -> Step
-    requires { ⌜ left ≤ current .«operation_count» ⌝ }
-    ensures { λ r. ⌜ r ≡ stepTo current left cursor writes plain others count ⌝ }
+// The step that leaves no operation of the part. The call that ends the opening is not taken, because it goes on with frame 1.
+fn step_to_end(current: Current, cursor: usize, plain: u32, others: usize, count: usize) -> Step
+    ensures { λ r. ⌜ r ≡ stepEnding current cursor plain others count ⌝ }
 {
-    if left != 0 {
-        return Step {
-            taken: true,
-            from: current.cursor,
-            plain: plain,
-            others: others,
-            count: count,
-            complete: false,
-            part: current.part,
-            cursor: cursor,
-            operation_index: current.operation_count - left,
-            operation_count: current.operation_count,
-            write_index: writes,
-            frame_index: current.frame_index,
-        };
-    }
     if current.part == Part::OPENING {
         return no_step();
     }
@@ -274,6 +248,38 @@ pub fn step_to(
         operation_index: 0,
         operation_count: 0,
         write_index: 0,
+        frame_index: current.frame_index,
+    }
+}
+
+// The step that leaves so many operations of the part, the next one at a cursor with so many writes made.
+pub fn step_to(
+    current: Current,
+    left: u32,
+    cursor: usize,
+    writes: u32,
+    plain: u32,
+    others: usize,
+    count: usize,
+) -> Step
+    requires { ⌜ left ≤ current .«operation_count» ⌝ }
+    ensures { λ r. ⌜ r ≡ stepTo current left cursor writes plain others count ⌝ }
+{
+    if left == 0 {
+        return step_to_end(current, cursor, plain, others, count);
+    }
+    Step {
+        taken: true,
+        from: current.cursor,
+        plain: plain,
+        others: others,
+        count: count,
+        complete: false,
+        part: current.part,
+        cursor: cursor,
+        operation_index: current.operation_count - left,
+        operation_count: current.operation_count,
+        write_index: writes,
         frame_index: current.frame_index,
     }
 }
