@@ -1,12 +1,17 @@
 -- The test of a state is the sheet's: refusal 25 exactly where it belongs to another file.
-use Prim.Native.Nat.{ℕ}
-use mathlib.Core.Bool.{Bool, true, false, _||_}
+use Prim.Native.Nat.{ℕ, _≤_}
+use mathlib.Core.Bool.{Bool, true, false, not, _||_}
 use mathlib.Core.List.{List}
-use mathlib.Core.Path.{_≡_, refl, sym, ap, _∙_}
+use mathlib.Core.Path.{_≡_, refl, sym}
+use borrow.Author.Tests.{ltb-false}
+use lib.Dec.{eqb, ltb}
 use lib.ListN.{length}
+use Rattle.format.specs.declared.header.Header.{Header}
+use Rattle.format.specs.declared.player.Progress.{Progress}
 use Rattle.format.specs.declared.player.StreamPlayer.{StreamPlayer}
 use Rattle.format.specs.Checked.{refuse, _>>_}
 use Rattle.format.specs.Player.{belongs}
+use Rattle.format.proofs.Checks.{or-false}
 use Rattle.belongs.specs.Foreign.{foreignTo}
 
 -- two tests with one refusal are one test
@@ -17,3 +22,12 @@ either number place false b = refl
 pub foreign-is : (state : StreamPlayer) (file : List ℕ) → refuse 25 0 (foreignTo (length file) (state .header) (state .cards .count) (state .progress)) ≡ belongs state file
 unfolding foreignTo belongs
 foreign-is state file = sym (rw (either 25 0, either 25 0, either 25 0))
+
+-- a state that belongs to the file has no more operations done than there are
+pub own-operations : (size : ℕ) (header : Header) (cards : ℕ) (p : Progress) → foreignTo size header cards p ≡ false → p .«operation_index» ≤ p .«operation_count»
+unfolding foreignTo
+own-operations size header cards p own =
+    let recorded = or-false (not (eqb size (header .«total_size»))) _ own .1 in
+    let places = or-false (eqb (header .version) 0 || ltb 4 (header .version) || ltb 8 cards) _ recorded .1 in
+    let counters = or-false (ltb size (p .cursor) || ltb size (header .«initial_start») || ltb size (header .«frame_start») || ltb size (header .«directory_offset»)) _ places .1 in
+    ltb-false _ _ (or-false (ltb (header .«frame_count») (p .«frame_index»)) _ counters .1)

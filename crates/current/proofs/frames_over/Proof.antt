@@ -1,0 +1,13 @@
+-- `current::frames_over` meets its contract. Assumes nothing.
+use borrow.Author.Tests.{le-ltb, lt-ltb}
+use Rattle.current.proofs.frames_over.Statement.{statement}
+use Rattle.current.proofs.frames_over.Tie as tie
+
+returns : tie.Need-returns
+returns c = simp (lt-ltb _ _ (c .if1 .taken))
+
+returns-2 : tie.Need-returns-2
+returns-2 c = simp (le-ltb _ _ (c .if1 .left))
+
+pub frames-over-spec : {M : Type 1} → statement M
+frames-over-spec = tie.close (tie.spec returns returns-2)

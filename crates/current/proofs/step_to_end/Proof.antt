@@ -1,0 +1,20 @@
+-- `current::step_to_end` meets its contract. Assumes nothing.
+use borrow.Author.Needs.{needs}
+use borrow.Author.Tests.{eq-eqb, ne-eqb}
+use Rattle.current.specs.Step.{stepEnding}
+use Rattle.current.proofs.step_to_end.Statement.{statement}
+use Rattle.current.proofs.step_to_end.Tie as tie
+
+no-step-requires : tie.Need-no-step-requires
+no-step-requires c κs = search needs
+
+returns : tie.Need-returns
+unfolding stepEnding
+returns c = simp (eq-eqb _ _ (c .before .if1 .taken), ← (c .no-step .ensures))
+
+returns-2 : tie.Need-returns-2
+unfolding stepEnding
+returns-2 c = simp (ne-eqb _ _ (c .if1 .left))
+
+pub step-to-end-spec : {M : Type 1} → statement M
+step-to-end-spec = tie.close (tie.spec no-step-requires returns returns-2)
