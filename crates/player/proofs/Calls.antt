@@ -20,10 +20,10 @@ use Rattle.store.proofs.Call.{stored-nothing, call-stored}
 use Rattle.empty_step.specs.declared.EmptyStep.{EmptyStep}
 use Rattle.empty_step.specs.Empty.{emptyOf, emptied}
 use Rattle.empty_step.proofs.Emptied.{empty-call}
-use Rattle.quick_step.specs.declared.Step.{Step}
-use Rattle.quick_step.specs.Step.{stepOf, stepped}
-use Rattle.quick_step.proofs.Stepped.{step-call}
-use Rattle.quick_step.proofs.Plainly.{step-plainly}
+use Rattle.current.specs.declared.Step.{Step}
+use Rattle.current.specs.Step.{stepped}
+use Rattle.quick_step.specs.Step.{stepOf}
+use Rattle.quick_step.proofs.Stepped.{step-call, step-plainly}
 use Rattle.store_writes.specs.Stored.{writesStored}
 use Rattle.store_writes.proofs.Writes.{writes-long, storable-all}
 use Rattle.player.specs.declared.vsync.Vsync.{Vsync}
@@ -87,15 +87,15 @@ stepTold step = record { number = 0; count = step .count; complete = step .compl
 abbrev pub steppedOn : StreamPlayer → Step → StreamPlayer
 steppedOn state step = moved state (stepped (state .progress) step)
 
-pub step-told : (state : StreamPlayer) (file : List ℕ) (run : List WriteRecord) (step : Step) (zs : List WriteRecord) → step ≡ stepOf file (state .header) (state .cards .count) (state .progress) (length run) → step .taken ≡ true → zs ≡ writesStored file (state .header .version) (step .from) (step .count) run → (stepTold step ≡ vsyncOf (call state file (length run))) × (steppedOn state step ≡ stateAfter state (call state file (length run))) × (zs ≡ runAfter run (call state file (length run)))
+pub step-told : (state : StreamPlayer) (file : List ℕ) (run : List WriteRecord) (step : Step) (zs : List WriteRecord) → step ≡ stepOf file (state .header) (state .cards .count) (state .progress) (length run) → step .taken ≡ true → zs ≡ writesStored file (state .header .version) (step .from) (step .plain) run → (stepTold step ≡ vsyncOf (call state file (length run))) × (steppedOn state step ≡ stateAfter state (call state file (length run))) × (zs ≡ runAfter run (call state file (length run)))
 unfolding writesStored
 step-told state file run step zs e taken wrote =
     let version = state .header .version in
     let is = step-call state file (length run) step e taken in
-    let plainly = step-plainly file (length run) (state .header) (state .cards .count) (state .progress) step e taken in
-    let long = writes-long version file (step .count) (step .from) in
-    let all = storable-all version file (length run) (plainly .end) (step .from) (step .count) (plainly .inside) (plainly .fit) (plainly .some) in
-    (rw (is, long), rw is, rw is (wrote ∙ rw all))
+    let plainly = step-plainly file (state .header) (state .cards .count) (state .progress) (length run) step e taken in
+    let long = plainly .same ∙ sym (writes-long version file (step .plain) (step .from)) in
+    let all = storable-all version file (length run) (plainly .end) (step .from) (step .plain) (plainly .inside) (rw (← (plainly .same)) (plainly .fit)) (plainly .some) in
+    (rw is (ap (λ (n : ℕ). record { number = 0; count = n; complete = step .complete }) long), rw is, rw is (wrote ∙ rw all))
 
 -- AN EMPTY FRAME
 

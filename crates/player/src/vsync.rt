@@ -51,15 +51,16 @@ fn busy_vsync(state: &mut StreamPlayer, file: &[u8], run: &mut [WriteRecord]) ->
         run.len(),
     );
     if step.taken {
-        store_writes(run, file, seen.header.version, step.from, step.count);
+        store_writes(run, file, seen.header.version, step.from, step.plain);
         state.progress.part = step.part;
         state.progress.cursor = step.cursor;
         state.progress.operation_index = step.operation_index;
         state.progress.operation_count = step.operation_count;
+        state.progress.write_index = step.write_index;
         state.progress.frame_index = step.frame_index;
         return Vsync {
             number: 0,
-            count: step.count as usize,
+            count: step.count,
             complete: step.complete,
         };
     }

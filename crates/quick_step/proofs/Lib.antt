@@ -1,3 +1,1 @@
-pub mod Takes
 pub mod Stepped
-pub mod Plainly

@@ -1,5 +1,5 @@
 -- `busy_vsync` meets its contract: a walk of its MIR, by hand. The state's borrow is opened and the whole state is read; the covered `quick_step` says whether
--- the call is taken. If it is, `store_writes` stores its records, five fields of the state are written, and the borrow is closed at the state that they make; else the borrow
+-- the call is taken. If it is, `store_writes` stores its records, six fields of the state are written, and the borrow is closed at the state that they make; else the borrow
 -- is closed at the state as it was, and `planned_vsync` gets state and run for good. All that the proof knows of the callees is that each meets its contract.
 use mathlib.Core.Path.{_≡_, refl, ap, subst}
 use Prim.Native.Nat.{ℕ, _<_, _^_}
@@ -59,10 +59,10 @@ use Rattle.format.proofs.player.Progress as G
 use Rattle.format.proofs.player.Progress.Laws as G′
 use Rattle.format.proofs.player.StreamPlayer as P
 use Rattle.format.proofs.player.StreamPlayer.Laws as P′
-use Rattle.quick_step.specs.declared.Step.{Step}
+use Rattle.current.specs.declared.Step.{Step}
 use Rattle.quick_step.specs.Step.{stepOf}
-use Rattle.quick_step.proofs.Step as Q
-use Rattle.quick_step.proofs.Step.Laws as Q′
+use Rattle.current.proofs.Step as Q
+use Rattle.current.proofs.Step.Laws as Q′
 use Rattle.quick_step.proofs.quick_step as qs
 use Rattle.quick_step.proofs.quick_step.Symbol as qs-def
 use Rattle.quick_step.proofs.quick_step.Symbol.{name as #quick-step}
@@ -185,7 +185,7 @@ module _ {M : Type 1} (𝓤 : URA M) (H : Heap 𝓤) (A : Atoms 𝓤) (W : Given
   Stepped r = r ≡ stepOf bs (h .header) (h .cards .count) (h .progress) (length ys)
 
   abbrev Wrote : Step → List WriteRecord → Type 0
-  Wrote r zs = zs ≡ writesStored bs (h .header .version) (r .from) (r .count) ys
+  Wrote r zs = zs ≡ writesStored bs (h .header .version) (r .from) (r .plain) ys
 
   module _ (was : Is P.the-row h (LL.vals P.the-type P′.the-laws h)) where
     -- what `quick_step`'s triple binds outside, and that the caller has what it asks
@@ -204,36 +204,34 @@ module _ {M : Type 1} (𝓤 : URA M) (H : Heap 𝓤) (A : Atoms 𝓤) (W : Given
       from-fits : r .from < 2 ^ 64
       from-fits = LL.owed Q.the-type Q′.the-laws r _ is .1 .0 .1
 
-      taken-fits : r .count < 2 ^ 32
-      taken-fits = LL.owed Q.the-type Q′.the-laws r _ is .1 .1 .0 .1
-
-      answer-fits : r .count < 2 ^ 64
-      answer-fits = omega (arith, taken-fits)
+      plain-fits : r .plain < 2 ^ 32
+      plain-fits = LL.owed Q.the-type Q′.the-laws r _ is .1 .1 .0 .1
 
       version-fits : h .header .version < 2 ^ 8
       version-fits = LL.owed E.the-type E′.the-laws (h .header) _ (LL.owed P.the-type P′.the-laws h _ was .0) .0 .1
 
       -- what it tells, and the state that its fields make, are values of their types
       told-is : Is Y.the-row (stepTold r) (LL.vals Y.the-type Y′.the-laws (stepTold r))
-      told-is = LL.owes Y.the-type Y′.the-laws (stepTold r) ((refl, lit< tt), ((refl, answer-fits), (LL.owed Q.the-type Q′.the-laws r _ is .1 .1 .1 .0, tt)))
+      told-is = LL.owes Y.the-type Y′.the-laws (stepTold r) ((refl, lit< tt), (LL.owed Q.the-type Q′.the-laws r _ is .1 .1 .1 .1 .0, (LL.owed Q.the-type Q′.the-laws r _ is .1 .1 .1 .1 .1 .0, tt)))
 
       progress-is : Is G.the-row (steppedOn h r .progress) (LL.vals G.the-type G′.the-laws (steppedOn h r .progress))
       progress-is =
           let old = LL.owed G.the-type G′.the-laws (h .progress) _ (LL.owed P.the-type P′.the-laws h _ was .1 .1 .1 .0) in
-          LL.owes G.the-type G′.the-laws (steppedOn h r .progress) (LL.owed Q.the-type Q′.the-laws r _ is .1 .1 .1 .1 .0, (LL.owed Q.the-type Q′.the-laws r _ is .1 .1 .1 .1 .1 .0, (LL.owed Q.the-type Q′.the-laws r _ is .1 .1 .1 .1 .1 .1 .0, (LL.owed Q.the-type Q′.the-laws r _ is .1 .1 .1 .1 .1 .1 .1 .0, (old .1 .1 .1 .1 .0, (LL.owed Q.the-type Q′.the-laws r _ is .1 .1 .1 .1 .1 .1 .1 .1 .0, (old .1 .1 .1 .1 .1 .1 .0, (old .1 .1 .1 .1 .1 .1 .1 .0, (old .1 .1 .1 .1 .1 .1 .1 .1 .0, tt)))))))))
+          let new = LL.owed Q.the-type Q′.the-laws r _ is .1 .1 .1 .1 .1 .1 in
+          LL.owes G.the-type G′.the-laws (steppedOn h r .progress) (new .0, (new .1 .0, (new .1 .1 .0, (new .1 .1 .1 .0, (new .1 .1 .1 .1 .0, (new .1 .1 .1 .1 .1 .0, (old .1 .1 .1 .1 .1 .1 .0, (old .1 .1 .1 .1 .1 .1 .1 .0, (old .1 .1 .1 .1 .1 .1 .1 .1 .0, tt)))))))))
 
       next-is : Is P.the-row (steppedOn h r) (LL.vals P.the-type P′.the-laws (steppedOn h r))
       next-is = LL.owes P.the-type P′.the-laws (steppedOn h r) (LL.owed P.the-type P′.the-laws h _ was .0, (LL.owed P.the-type P′.the-laws h _ was .1 .0, (LL.owed P.the-type P′.the-laws h _ was .1 .1 .0, (progress-is, tt))))
 
       -- what `store_writes`' triple binds outside
       abbrev to-store : Stores 𝓤 H A at-mem run .Ghost
-      to-store = (((κ₃, (κ₂, tt)), (q₃, (q₂, tt)), tt, (x₃, (x₂, (h .header .version, (r .from, (r .count, tt))))), (s₃ ∷ [], (s₂ ∷ [], (vint w8 (h .header .version) ∷ [], (vint w64 (r .from) ∷ [], (vint w32 (r .count) ∷ [], tt)))))), tt)
+      to-store = (((κ₃, (κ₂, tt)), (q₃, (q₂, tt)), tt, (x₃, (x₂, (h .header .version, (r .from, (r .plain, tt))))), (s₃ ∷ [], (s₂ ∷ [], (vint w8 (h .header .version) ∷ [], (vint w64 (r .from) ∷ [], (vint w32 (r .plain) ∷ [], tt)))))), tt)
 
       goes-store : ent 𝓤 (sep 𝓤 (A .lft κ₃ q₃) (sep 𝓤 (A .lft κ₂ q₂) (sep 𝓤 (sem 𝓤 H A Run) (sem 𝓤 H A File)))) (Stores 𝓤 H A at-mem run .pre to-store)
       goes-store =
           qed W (‵ (flft κ₃ q₃) ∷ ‵ (flft κ₂ q₂) ∷ (‵ Run ⊛ ‵ File) ∷ []) ∵ move ! (2 ∷ []) $ split ! $
           -- [run; file; run's token; file's token]
-          nothing ! $ owned ! u32 (Is u32) (uint-makes 𝓤 H A W w32) (r .count) _ (refl, taken-fits) $ fjoin ! $ owned ! usize (Is usize) (uint-makes 𝓤 H A W w64) (r .from) _ (refl, from-fits) $ fjoin ! $ owned ! u8 (Is u8) (uint-makes 𝓤 H A W w8) (h .header .version) _ (refl, version-fits) $ fjoin ! $ move ! (2 ∷ 0 ∷ []) $ fjoin ! $ move ! (1 ∷ 0 ∷ []) $ fjoin ! $
+          nothing ! $ owned ! u32 (Is u32) (uint-makes 𝓤 H A W w32) (r .plain) _ (refl, plain-fits) $ fjoin ! $ owned ! usize (Is usize) (uint-makes 𝓤 H A W w64) (r .from) _ (refl, from-fits) $ fjoin ! $ owned ! u8 (Is u8) (uint-makes 𝓤 H A W w8) (h .header .version) _ (refl, version-fits) $ fjoin ! $ move ! (2 ∷ 0 ∷ []) $ fjoin ! $ move ! (1 ∷ 0 ∷ []) $ fjoin ! $
           nothing ! $ move ! (3 ∷ 0 ∷ []) $ join ! $ move ! (2 ∷ 0 ∷ []) $ join ! $ nothing ! $ move ! (1 ∷ 2 ∷ 0 ∷ []) $ join ! $ join ! $ done !
 
   -- ANY OTHER CALL
@@ -250,59 +248,59 @@ module _ {M : Type 1} (𝓤 : URA M) (H : Heap 𝓤) (A : Atoms 𝓤) (W : Given
       nothing ! $ move ! (2 ∷ 0 ∷ []) $ fjoin ! $ move ! (1 ∷ 0 ∷ []) $ fjoin ! $ move ! (1 ∷ 0 ∷ []) $ fjoin ! $ nothing ! $ move ! (2 ∷ 0 ∷ []) $ join ! $ move ! (3 ∷ 0 ∷ []) $ join ! $ move ! (2 ∷ 0 ∷ []) $ join ! $ nothing ! $ move ! (1 ∷ 2 ∷ 0 ∷ []) $ join ! $ join ! $ done !
 
   module _ (C : Calls 𝓤 H) (Λ : Loops 𝓤 H) (fm : FmC 𝓤 H (W .laws) C) (known-step : Triple 𝓤 (C #quick-step) (Decides 𝓤 H A at-mem run)) (known-store : Triple 𝓤 (C #store-writes) (Stores 𝓤 H A at-mem run)) (known : Triple 𝓤 (C #player·planned-vsync) (Advances 𝓤 H A at-mem run)) where
-    module _ (l₀ l₁ l₂ l₃ l₄ l₅ l₆ l₇ l₈ l₉ l₁₀ l₁₁ l₁₂ l₁₃ l₁₄ : ℕ) where
+    module _ (l₀ l₁ l₂ l₃ l₄ l₅ l₆ l₇ l₈ l₉ l₁₀ l₁₁ l₁₂ l₁₃ : ℕ) where
       abbrev En : Env 𝓤 H
-      En = (Y′.mir, l₀) ∷ (ref, l₁) ∷ (bytes, l₂) ∷ (slice, l₃) ∷ (P′.mir, l₄) ∷ (Q′.mir, l₅) ∷ (word, l₆) ∷ (tyBool, l₇) ∷ (tyUnit, l₈) ∷ (eref, l₉) ∷ (eslice, l₁₀) ∷ (word, l₁₁) ∷ (pref, l₁₂) ∷ (eref, l₁₃) ∷ (eslice, l₁₄) ∷ []
+      En = (Y′.mir, l₀) ∷ (ref, l₁) ∷ (bytes, l₂) ∷ (slice, l₃) ∷ (P′.mir, l₄) ∷ (Q′.mir, l₅) ∷ (word, l₆) ∷ (tyBool, l₇) ∷ (tyUnit, l₈) ∷ (eref, l₉) ∷ (eslice, l₁₀) ∷ (pref, l₁₁) ∷ (eref, l₁₂) ∷ (eslice, l₁₃) ∷ []
 
       abbrev Entered : List (Item 𝓤)
       Entered = ‵ (cellAt fullShare (P.the-row .mir) (LL.vals P.the-type P′.the-laws h) b o) ∷ ‵ (fobor κ q (Body (mem P.the-row) b o γ)) ∷ ‵ (fobs γ (P.the-row .coded .code h)) ∷ ‵ (fauth γ (P.the-row .coded .code h)) ∷ ‵ (flft κ₂ q₂) ∷ ‵ (flft κ₃ q₃) ∷ ‵ Run ∷ ‵ File
-          ∷ ‵ (froom eslice l₁₄ 0) ∷ ‵ (fdies eslice l₁₄) ∷ ‵ (froom eref l₁₃ 0) ∷ ‵ (fdies eref l₁₃) ∷ ‵ (froom pref l₁₂ 0) ∷ ‵ (fdies pref l₁₂) ∷ ‵ (froom word l₁₁ 0) ∷ ‵ (fdies word l₁₁) ∷ ‵ (froom eslice l₁₀ 0) ∷ ‵ (fdies eslice l₁₀) ∷ ‵ (froom eref l₉ 0) ∷ ‵ (fdies eref l₉) ∷ ‵ (froom tyUnit l₈ 0) ∷ ‵ (fdies tyUnit l₈) ∷ ‵ (froom tyBool l₇ 0) ∷ ‵ (fdies tyBool l₇) ∷ ‵ (froom word l₆ 0) ∷ ‵ (fdies word l₆) ∷ ‵ (froom Q′.mir l₅ 0) ∷ ‵ (fdies Q′.mir l₅) ∷ ‵ (froom P′.mir l₄ 0) ∷ ‵ (fdies P′.mir l₄) ∷ ‵ (fat fullShare slice l₃ 0 s₃) ∷ ‵ (fdies slice l₃) ∷ ‵ (fat fullShare bytes l₂ 0 s₂) ∷ ‵ (fdies bytes l₂) ∷ ‵ (fat fullShare ref l₁ 0 (vptr b o)) ∷ ‵ (fdies ref l₁) ∷ ‵ (froom Y′.mir l₀ 0) ∷ ‵ (fdies Y′.mir l₀) ∷ []
+          ∷ ‵ (froom eslice l₁₃ 0) ∷ ‵ (fdies eslice l₁₃) ∷ ‵ (froom eref l₁₂ 0) ∷ ‵ (fdies eref l₁₂) ∷ ‵ (froom pref l₁₁ 0) ∷ ‵ (fdies pref l₁₁) ∷ ‵ (froom eslice l₁₀ 0) ∷ ‵ (fdies eslice l₁₀) ∷ ‵ (froom eref l₉ 0) ∷ ‵ (fdies eref l₉) ∷ ‵ (froom tyUnit l₈ 0) ∷ ‵ (fdies tyUnit l₈) ∷ ‵ (froom tyBool l₇ 0) ∷ ‵ (fdies tyBool l₇) ∷ ‵ (froom word l₆ 0) ∷ ‵ (fdies word l₆) ∷ ‵ (froom Q′.mir l₅ 0) ∷ ‵ (fdies Q′.mir l₅) ∷ ‵ (froom P′.mir l₄ 0) ∷ ‵ (fdies P′.mir l₄) ∷ ‵ (fat fullShare slice l₃ 0 s₃) ∷ ‵ (fdies slice l₃) ∷ ‵ (fat fullShare bytes l₂ 0 s₂) ∷ ‵ (fdies bytes l₂) ∷ ‵ (fat fullShare ref l₁ 0 (vptr b o)) ∷ ‵ (fdies ref l₁) ∷ ‵ (froom Y′.mir l₀ 0) ∷ ‵ (fdies Y′.mir l₀) ∷ []
 
       -- with the step; with its test made; and with the records stored
       abbrev Decided : Step → List (Item 𝓤)
       Decided r = ‵ (cellAt fullShare (P.the-row .mir) (LL.vals P.the-type P′.the-laws h) b o) ∷ ‵ (fobor κ q (Body (mem P.the-row) b o γ)) ∷ ‵ (fobs γ (P.the-row .coded .code h)) ∷ ‵ (fauth γ (P.the-row .coded .code h)) ∷ ‵ (flft κ₂ q₂) ∷ ‵ (flft κ₃ q₃) ∷ ‵ Run ∷ ‵ File
-          ∷ ‵ (froom eslice l₁₄ 0) ∷ ‵ (fdies eslice l₁₄) ∷ ‵ (froom eref l₁₃ 0) ∷ ‵ (fdies eref l₁₃) ∷ ‵ (froom pref l₁₂ 0) ∷ ‵ (fdies pref l₁₂) ∷ ‵ (froom word l₁₁ 0) ∷ ‵ (fdies word l₁₁) ∷ ‵ (froom eslice l₁₀ 0) ∷ ‵ (fdies eslice l₁₀) ∷ ‵ (froom eref l₉ 0) ∷ ‵ (fdies eref l₉) ∷ ‵ (froom tyUnit l₈ 0) ∷ ‵ (fdies tyUnit l₈) ∷ ‵ (froom tyBool l₇ 0) ∷ ‵ (fdies tyBool l₇) ∷ ‵ (fat fullShare word l₆ 0 (vint w64 (length ys))) ∷ ‵ (fdies word l₆) ∷ ‵ (fat fullShare Q′.mir l₅ 0 (LL.val Q.the-type Q′.the-laws r)) ∷ ‵ (fdies Q′.mir l₅) ∷ ‵ (fat fullShare P′.mir l₄ 0 (LL.val P.the-type P′.the-laws h)) ∷ ‵ (fdies P′.mir l₄) ∷ ‵ (fat fullShare slice l₃ 0 s₃) ∷ ‵ (fdies slice l₃) ∷ ‵ (fat fullShare bytes l₂ 0 s₂) ∷ ‵ (fdies bytes l₂) ∷ ‵ (fat fullShare ref l₁ 0 (vptr b o)) ∷ ‵ (fdies ref l₁) ∷ ‵ (froom Y′.mir l₀ 0) ∷ ‵ (fdies Y′.mir l₀) ∷ []
+          ∷ ‵ (froom eslice l₁₃ 0) ∷ ‵ (fdies eslice l₁₃) ∷ ‵ (froom eref l₁₂ 0) ∷ ‵ (fdies eref l₁₂) ∷ ‵ (froom pref l₁₁ 0) ∷ ‵ (fdies pref l₁₁) ∷ ‵ (froom eslice l₁₀ 0) ∷ ‵ (fdies eslice l₁₀) ∷ ‵ (froom eref l₉ 0) ∷ ‵ (fdies eref l₉) ∷ ‵ (froom tyUnit l₈ 0) ∷ ‵ (fdies tyUnit l₈) ∷ ‵ (froom tyBool l₇ 0) ∷ ‵ (fdies tyBool l₇) ∷ ‵ (fat fullShare word l₆ 0 (vint w64 (length ys))) ∷ ‵ (fdies word l₆) ∷ ‵ (fat fullShare Q′.mir l₅ 0 (LL.val Q.the-type Q′.the-laws r)) ∷ ‵ (fdies Q′.mir l₅) ∷ ‵ (fat fullShare P′.mir l₄ 0 (LL.val P.the-type P′.the-laws h)) ∷ ‵ (fdies P′.mir l₄) ∷ ‵ (fat fullShare slice l₃ 0 s₃) ∷ ‵ (fdies slice l₃) ∷ ‵ (fat fullShare bytes l₂ 0 s₂) ∷ ‵ (fdies bytes l₂) ∷ ‵ (fat fullShare ref l₁ 0 (vptr b o)) ∷ ‵ (fdies ref l₁) ∷ ‵ (froom Y′.mir l₀ 0) ∷ ‵ (fdies Y′.mir l₀) ∷ []
 
       abbrev Tested : Step → List (Item 𝓤)
       Tested r = ‵ (cellAt fullShare (P.the-row .mir) (LL.vals P.the-type P′.the-laws h) b o) ∷ ‵ (fobor κ q (Body (mem P.the-row) b o γ)) ∷ ‵ (fobs γ (P.the-row .coded .code h)) ∷ ‵ (fauth γ (P.the-row .coded .code h)) ∷ ‵ (flft κ₂ q₂) ∷ ‵ (flft κ₃ q₃) ∷ ‵ Run ∷ ‵ File
-          ∷ ‵ (froom eslice l₁₄ 0) ∷ ‵ (fdies eslice l₁₄) ∷ ‵ (froom eref l₁₃ 0) ∷ ‵ (fdies eref l₁₃) ∷ ‵ (froom pref l₁₂ 0) ∷ ‵ (fdies pref l₁₂) ∷ ‵ (froom word l₁₁ 0) ∷ ‵ (fdies word l₁₁) ∷ ‵ (froom eslice l₁₀ 0) ∷ ‵ (fdies eslice l₁₀) ∷ ‵ (froom eref l₉ 0) ∷ ‵ (fdies eref l₉) ∷ ‵ (froom tyUnit l₈ 0) ∷ ‵ (fdies tyUnit l₈) ∷ ‵ (fat fullShare tyBool l₇ 0 (vbool (r .taken))) ∷ ‵ (fdies tyBool l₇) ∷ ‵ (fat fullShare word l₆ 0 (vint w64 (length ys))) ∷ ‵ (fdies word l₆) ∷ ‵ (fat fullShare Q′.mir l₅ 0 (LL.val Q.the-type Q′.the-laws r)) ∷ ‵ (fdies Q′.mir l₅) ∷ ‵ (fat fullShare P′.mir l₄ 0 (LL.val P.the-type P′.the-laws h)) ∷ ‵ (fdies P′.mir l₄) ∷ ‵ (fat fullShare slice l₃ 0 s₃) ∷ ‵ (fdies slice l₃) ∷ ‵ (fat fullShare bytes l₂ 0 s₂) ∷ ‵ (fdies bytes l₂) ∷ ‵ (fat fullShare ref l₁ 0 (vptr b o)) ∷ ‵ (fdies ref l₁) ∷ ‵ (froom Y′.mir l₀ 0) ∷ ‵ (fdies Y′.mir l₀) ∷ []
+          ∷ ‵ (froom eslice l₁₃ 0) ∷ ‵ (fdies eslice l₁₃) ∷ ‵ (froom eref l₁₂ 0) ∷ ‵ (fdies eref l₁₂) ∷ ‵ (froom pref l₁₁ 0) ∷ ‵ (fdies pref l₁₁) ∷ ‵ (froom eslice l₁₀ 0) ∷ ‵ (fdies eslice l₁₀) ∷ ‵ (froom eref l₉ 0) ∷ ‵ (fdies eref l₉) ∷ ‵ (froom tyUnit l₈ 0) ∷ ‵ (fdies tyUnit l₈) ∷ ‵ (fat fullShare tyBool l₇ 0 (vbool (r .taken))) ∷ ‵ (fdies tyBool l₇) ∷ ‵ (fat fullShare word l₆ 0 (vint w64 (length ys))) ∷ ‵ (fdies word l₆) ∷ ‵ (fat fullShare Q′.mir l₅ 0 (LL.val Q.the-type Q′.the-laws r)) ∷ ‵ (fdies Q′.mir l₅) ∷ ‵ (fat fullShare P′.mir l₄ 0 (LL.val P.the-type P′.the-laws h)) ∷ ‵ (fdies P′.mir l₄) ∷ ‵ (fat fullShare slice l₃ 0 s₃) ∷ ‵ (fdies slice l₃) ∷ ‵ (fat fullShare bytes l₂ 0 s₂) ∷ ‵ (fdies bytes l₂) ∷ ‵ (fat fullShare ref l₁ 0 (vptr b o)) ∷ ‵ (fdies ref l₁) ∷ ‵ (froom Y′.mir l₀ 0) ∷ ‵ (fdies Y′.mir l₀) ∷ []
 
       abbrev Stored : Step → List WriteRecord → List (Item 𝓤)
       Stored r zs = ‵ (cellAt fullShare (P.the-row .mir) (LL.vals P.the-type P′.the-laws h) b o) ∷ ‵ (fobor κ q (Body (mem P.the-row) b o γ)) ∷ ‵ (fobs γ (P.the-row .coded .code h)) ∷ ‵ (fauth γ (P.the-row .coded .code h)) ∷ ‵ (flft κ₂ q₂) ∷ ‵ (flft κ₃ q₃) ∷ ‵ (finally T.the-row γ₃ zs) ∷ ‵ File
-          ∷ ‵ (froom eslice l₁₄ 0) ∷ ‵ (fdies eslice l₁₄) ∷ ‵ (froom eref l₁₃ 0) ∷ ‵ (fdies eref l₁₃) ∷ ‵ (froom pref l₁₂ 0) ∷ ‵ (fdies pref l₁₂) ∷ ‵ (froom word l₁₁ 0) ∷ ‵ (fdies word l₁₁) ∷ ‵ (froom eslice l₁₀ 0) ∷ ‵ (fdies eslice l₁₀) ∷ ‵ (froom eref l₉ 0) ∷ ‵ (fdies eref l₉) ∷ ‵ (froom tyUnit l₈ 0) ∷ ‵ (fdies tyUnit l₈) ∷ ‵ (fat fullShare tyBool l₇ 0 (vbool (r .taken))) ∷ ‵ (fdies tyBool l₇) ∷ ‵ (fat fullShare word l₆ 0 (vint w64 (length ys))) ∷ ‵ (fdies word l₆) ∷ ‵ (fat fullShare Q′.mir l₅ 0 (LL.val Q.the-type Q′.the-laws r)) ∷ ‵ (fdies Q′.mir l₅) ∷ ‵ (fat fullShare P′.mir l₄ 0 (LL.val P.the-type P′.the-laws h)) ∷ ‵ (fdies P′.mir l₄) ∷ ‵ (fat fullShare slice l₃ 0 s₃) ∷ ‵ (fdies slice l₃) ∷ ‵ (fat fullShare bytes l₂ 0 s₂) ∷ ‵ (fdies bytes l₂) ∷ ‵ (fat fullShare ref l₁ 0 (vptr b o)) ∷ ‵ (fdies ref l₁) ∷ ‵ (froom Y′.mir l₀ 0) ∷ ‵ (fdies Y′.mir l₀) ∷ []
+          ∷ ‵ (froom eslice l₁₃ 0) ∷ ‵ (fdies eslice l₁₃) ∷ ‵ (froom eref l₁₂ 0) ∷ ‵ (fdies eref l₁₂) ∷ ‵ (froom pref l₁₁ 0) ∷ ‵ (fdies pref l₁₁) ∷ ‵ (froom eslice l₁₀ 0) ∷ ‵ (fdies eslice l₁₀) ∷ ‵ (froom eref l₉ 0) ∷ ‵ (fdies eref l₉) ∷ ‵ (froom tyUnit l₈ 0) ∷ ‵ (fdies tyUnit l₈) ∷ ‵ (fat fullShare tyBool l₇ 0 (vbool (r .taken))) ∷ ‵ (fdies tyBool l₇) ∷ ‵ (fat fullShare word l₆ 0 (vint w64 (length ys))) ∷ ‵ (fdies word l₆) ∷ ‵ (fat fullShare Q′.mir l₅ 0 (LL.val Q.the-type Q′.the-laws r)) ∷ ‵ (fdies Q′.mir l₅) ∷ ‵ (fat fullShare P′.mir l₄ 0 (LL.val P.the-type P′.the-laws h)) ∷ ‵ (fdies P′.mir l₄) ∷ ‵ (fat fullShare slice l₃ 0 s₃) ∷ ‵ (fdies slice l₃) ∷ ‵ (fat fullShare bytes l₂ 0 s₂) ∷ ‵ (fdies bytes l₂) ∷ ‵ (fat fullShare ref l₁ 0 (vptr b o)) ∷ ‵ (fdies ref l₁) ∷ ‵ (froom Y′.mir l₀ 0) ∷ ‵ (fdies Y′.mir l₀) ∷ []
 
       -- the fields are written, and the function returns
       ends : (r : Step) (zs : List WriteRecord) → Stepped r → r .taken ≡ true → (was : Is P.the-row h (LL.vals P.the-type P′.the-laws h)) → (is : Is Q.the-row r (LL.vals Q.the-type Q′.the-laws r)) → Wrote r zs → length zs ≡ length ys → (z : After 𝓤 H) → post 𝓤 H z returnsᴼ ≡ atReturn 𝓤 H En Post returnsᴼ → Sq W (Stored r zs) (runs C Λ En (tail (tail (tail (then-of (head-of code.Mir.t-5))))) z)
       ends r zs e taken was is wrote l z at-end =
-          assigns ! (of-opd ! (load ! (from ! (fld ! refl (stop !))) (look-in ! 26 (sub ! 4 refl (whole !))))) (from ! (hop ! (look ! 34 refl) (fld ! refl (fld ! refl (stop !))))) (store-in ! 0 (sub ! 0 refl (sub ! 3 refl (whole !))) (tt, record { fits = LL.owed Q.the-type Q′.the-laws r _ is .1 .1 .1 .1 .0 .1 })) $
-          assigns ! (of-opd ! (load ! (from ! (fld ! refl (stop !))) (look-in ! 26 (sub ! 5 refl (whole !))))) (from ! (hop ! (look ! 34 refl) (fld ! refl (fld ! refl (stop !))))) (store-in ! 0 (sub ! 1 refl (sub ! 3 refl (whole !))) (tt, record { fits = LL.owed Q.the-type Q′.the-laws r _ is .1 .1 .1 .1 .1 .0 .1 })) $
-          assigns ! (of-opd ! (load ! (from ! (fld ! refl (stop !))) (look-in ! 26 (sub ! 6 refl (whole !))))) (from ! (hop ! (look ! 34 refl) (fld ! refl (fld ! refl (stop !))))) (store-in ! 0 (sub ! 2 refl (sub ! 3 refl (whole !))) (tt, record { fits = LL.owed Q.the-type Q′.the-laws r _ is .1 .1 .1 .1 .1 .1 .0 .1 })) $
-          assigns ! (of-opd ! (load ! (from ! (fld ! refl (stop !))) (look-in ! 26 (sub ! 7 refl (whole !))))) (from ! (hop ! (look ! 34 refl) (fld ! refl (fld ! refl (stop !))))) (store-in ! 0 (sub ! 3 refl (sub ! 3 refl (whole !))) (tt, record { fits = LL.owed Q.the-type Q′.the-laws r _ is .1 .1 .1 .1 .1 .1 .1 .0 .1 })) $
-          assigns ! (of-opd ! (load ! (from ! (fld ! refl (stop !))) (look-in ! 26 (sub ! 8 refl (whole !))))) (from ! (hop ! (look ! 34 refl) (fld ! refl (fld ! refl (stop !))))) (store-in ! 0 (sub ! 5 refl (sub ! 3 refl (whole !))) (tt, record { fits = LL.owed Q.the-type Q′.the-laws r _ is .1 .1 .1 .1 .1 .1 .1 .1 .0 .1 })) $
-          assigns ! (un ! (load ! (from ! (fld ! refl (stop !))) (look-in ! 26 (sub ! 2 refl (whole !)))) (record { fits = answer-fits was r is })) (from ! (stop !)) (init ! 14 refl (tt, record { fits = answer-fits was r is })) $
-          assigns ! (agg ! (and-then ! (lit ! tt) (and-then ! (load ! (from ! (stop !)) (look ! 14 refl)) (and-then ! (load ! (from ! (fld ! refl (stop !))) (look-in ! 26 (sub ! 3 refl (whole !)))) (no-more !))))) (from ! (stop !)) (init ! 36 refl (LL.lawful Y.the-type Y′.the-laws 𝓤 H A W .typed (stepTold r) _ (told-is was r is) .0)) $
+          assigns ! (of-opd ! (load ! (from ! (fld ! refl (stop !))) (look-in ! 24 (sub ! 6 refl (whole !))))) (from ! (hop ! (look ! 32 refl) (fld ! refl (fld ! refl (stop !))))) (store-in ! 0 (sub ! 0 refl (sub ! 3 refl (whole !))) (tt, record { fits = LL.owed Q.the-type Q′.the-laws r _ is .1 .1 .1 .1 .1 .1 .0 .1 })) $
+          assigns ! (of-opd ! (load ! (from ! (fld ! refl (stop !))) (look-in ! 24 (sub ! 7 refl (whole !))))) (from ! (hop ! (look ! 32 refl) (fld ! refl (fld ! refl (stop !))))) (store-in ! 0 (sub ! 1 refl (sub ! 3 refl (whole !))) (tt, record { fits = LL.owed Q.the-type Q′.the-laws r _ is .1 .1 .1 .1 .1 .1 .1 .0 .1 })) $
+          assigns ! (of-opd ! (load ! (from ! (fld ! refl (stop !))) (look-in ! 24 (sub ! 8 refl (whole !))))) (from ! (hop ! (look ! 32 refl) (fld ! refl (fld ! refl (stop !))))) (store-in ! 0 (sub ! 2 refl (sub ! 3 refl (whole !))) (tt, record { fits = LL.owed Q.the-type Q′.the-laws r _ is .1 .1 .1 .1 .1 .1 .1 .1 .0 .1 })) $
+          assigns ! (of-opd ! (load ! (from ! (fld ! refl (stop !))) (look-in ! 24 (sub ! 9 refl (whole !))))) (from ! (hop ! (look ! 32 refl) (fld ! refl (fld ! refl (stop !))))) (store-in ! 0 (sub ! 3 refl (sub ! 3 refl (whole !))) (tt, record { fits = LL.owed Q.the-type Q′.the-laws r _ is .1 .1 .1 .1 .1 .1 .1 .1 .1 .0 .1 })) $
+          assigns ! (of-opd ! (load ! (from ! (fld ! refl (stop !))) (look-in ! 24 (sub ! 10 refl (whole !))))) (from ! (hop ! (look ! 32 refl) (fld ! refl (fld ! refl (stop !))))) (store-in ! 0 (sub ! 4 refl (sub ! 3 refl (whole !))) (tt, record { fits = LL.owed Q.the-type Q′.the-laws r _ is .1 .1 .1 .1 .1 .1 .1 .1 .1 .1 .0 .1 })) $
+          assigns ! (of-opd ! (load ! (from ! (fld ! refl (stop !))) (look-in ! 24 (sub ! 11 refl (whole !))))) (from ! (hop ! (look ! 32 refl) (fld ! refl (fld ! refl (stop !))))) (store-in ! 0 (sub ! 5 refl (sub ! 3 refl (whole !))) (tt, record { fits = LL.owed Q.the-type Q′.the-laws r _ is .1 .1 .1 .1 .1 .1 .1 .1 .1 .1 .1 .0 .1 })) $
+          assigns ! (agg ! (and-then ! (lit ! tt) (and-then ! (load ! (from ! (fld ! refl (stop !))) (look-in ! 24 (sub ! 4 refl (whole !)))) (and-then ! (load ! (from ! (fld ! refl (stop !))) (look-in ! 24 (sub ! 5 refl (whole !)))) (no-more !))))) (from ! (stop !)) (init ! 34 refl (LL.lawful Y.the-type Y′.the-laws 𝓤 H A W .typed (stepTold r) _ (told-is was r is) .0)) $
           owned ! P.the-row (Is P.the-row) ((LL.makes P.the-type P′.the-plain) 𝓤 H A) (steppedOn h r) _ (next-is was r is) $ move ! (1 ∷ 0 ∷ []) $ closes ! tt P.the-row (steppedOn h r) (LL.vals P.the-type P′.the-laws (steppedOn h r)) b o $
           -- [obs; the borrow; the state's token; file's token; run's token; the last run; file; the locals]
-          returns-within ! Post at-end (look ! 35 refl) $ forget ! 35 refl $ forget ! 33 refl $ forget ! 31 refl $ forget ! 29 refl $ forget ! 27 refl $ forget ! 25 refl $ forget ! 23 refl $ forget ! 21 refl $ forget ! 13 refl $ move ! (35 ∷ 36 ∷ []) $ free1 ! $ move ! (33 ∷ 34 ∷ []) $ free1 ! $ move ! (31 ∷ 32 ∷ []) $ free1 ! $ move ! (29 ∷ 30 ∷ []) $ free1 ! $ move ! (27 ∷ 28 ∷ []) $ free1 ! $ move ! (25 ∷ 26 ∷ []) $ free1 ! $ move ! (23 ∷ 24 ∷ []) $ free1 ! $ move ! (21 ∷ 22 ∷ []) $ free1 ! $ move ! (19 ∷ 20 ∷ []) $ free1 ! $ move ! (17 ∷ 18 ∷ []) $ free1 ! $ move ! (15 ∷ 16 ∷ []) $ free1 ! $ move ! (13 ∷ 14 ∷ []) $ free1 ! $ move ! (11 ∷ 12 ∷ []) $ free1 ! $ move ! (9 ∷ 10 ∷ []) $ free1 ! $ move ! (7 ∷ 8 ∷ []) $ free1 ! $ free0 ! $
+          returns-within ! Post at-end (look ! 33 refl) $ forget ! 33 refl $ forget ! 31 refl $ forget ! 29 refl $ forget ! 27 refl $ forget ! 25 refl $ forget ! 23 refl $ forget ! 21 refl $ forget ! 19 refl $ move ! (33 ∷ 34 ∷ []) $ free1 ! $ move ! (31 ∷ 32 ∷ []) $ free1 ! $ move ! (29 ∷ 30 ∷ []) $ free1 ! $ move ! (27 ∷ 28 ∷ []) $ free1 ! $ move ! (25 ∷ 26 ∷ []) $ free1 ! $ move ! (23 ∷ 24 ∷ []) $ free1 ! $ move ! (21 ∷ 22 ∷ []) $ free1 ! $ move ! (19 ∷ 20 ∷ []) $ free1 ! $ move ! (17 ∷ 18 ∷ []) $ free1 ! $ move ! (15 ∷ 16 ∷ []) $ free1 ! $ move ! (13 ∷ 14 ∷ []) $ free1 ! $ move ! (11 ∷ 12 ∷ []) $ free1 ! $ move ! (9 ∷ 10 ∷ []) $ free1 ! $ move ! (7 ∷ 8 ∷ []) $ free1 ! $ free0 ! $
           use1 W (‵ (fres γ (P.the-row .coded .code (steppedOn h r)))) (W .names .obs-res γ (P.the-row .coded .code (steppedOn h r))) $ keep ! (0 ∷ 2 ∷ 3 ∷ 4 ∷ 5 ∷ 6 ∷ []) $
           by ! (exits (stepTold r) (steppedOn h r) zs (told-is was r is) (step-told h bs ys r zs e taken wrote) l)
 
       -- the records are stored
       takes : (r : Step) → Stepped r → r .taken ≡ true → (was : Is P.the-row h (LL.vals P.the-type P′.the-laws h)) → (is : Is Q.the-row r (LL.vals Q.the-type Q′.the-laws r)) → (z : After 𝓤 H) → post 𝓤 H z returnsᴼ ≡ atReturn 𝓤 H En Post returnsᴼ → Sq W (Tested r) (runs C Λ En (then-of (head-of code.Mir.t-5)) z)
       takes r e taken was is z at-end =
-          assigns ! (addr ! (from ! (fld ! refl (hop ! (look-in ! 30 (sub ! 0 refl (whole !))) (stop !))))) (from ! (stop !)) (init ! 18 refl (tt, tt)) $
-          assigns ! (agg ! (and-then ! (load ! (from ! (stop !)) (look ! 18 refl)) (and-then ! (load ! (from ! (fld ! refl (stop !))) (look-in ! 30 (sub ! 1 refl (whole !)))) (no-more !)))) (from ! (stop !)) (init ! 16 refl (tt, (tt, (record { fits = room₃ .0 }, tt)))) $
+          assigns ! (addr ! (from ! (fld ! refl (hop ! (look-in ! 28 (sub ! 0 refl (whole !))) (stop !))))) (from ! (stop !)) (init ! 16 refl (tt, tt)) $
+          assigns ! (agg ! (and-then ! (load ! (from ! (stop !)) (look ! 16 refl)) (and-then ! (load ! (from ! (fld ! refl (stop !))) (look-in ! 28 (sub ! 1 refl (whole !)))) (no-more !)))) (from ! (stop !)) (init ! 14 refl (tt, (tt, (record { fits = room₃ .0 }, tt)))) $
           move ! (7 ∷ []) $ use1 W (‵ File ⊛ ‵ File) (shr-slice-copy 𝓤 H A W (named 1) κ₂ u8 .twice x₂ (s₂ ∷ [])) $ split ! $ move ! (8 ∷ 0 ∷ []) $ join ! $ move ! (7 ∷ 6 ∷ 0 ∷ []) $
           use3 W (raw (Stores 𝓤 H A at-mem run .pre (to-store was r is))) (goes-store was r is) $
           -- [the callee's need; file; the state's cell; the open borrow; obs; auth; the locals]
-          calls-at ! fm (Stores 𝓤 H A at-mem run) known-store (to-store was r is) (and-then ! (load ! (from ! (stop !)) (look ! 14 refl)) (and-then ! (load ! (from ! (stop !)) (look ! 30 refl)) (and-then ! (load ! (from ! (fld ! refl (fld ! refl (stop !)))) (look-in ! 26 (sub ! 0 refl (sub ! 0 refl (whole !))))) (and-then ! (load ! (from ! (fld ! refl (stop !))) (look-in ! 24 (sub ! 1 refl (whole !)))) (and-then ! (load ! (from ! (fld ! refl (stop !))) (look-in ! 24 (sub ! 2 refl (whole !)))) (no-more !)))))) (λ v.
+          calls-at ! fm (Stores 𝓤 H A at-mem run) known-store (to-store was r is) (and-then ! (load ! (from ! (stop !)) (look ! 12 refl)) (and-then ! (load ! (from ! (stop !)) (look ! 28 refl)) (and-then ! (load ! (from ! (fld ! refl (fld ! refl (stop !)))) (look-in ! 24 (sub ! 0 refl (sub ! 0 refl (whole !))))) (and-then ! (load ! (from ! (fld ! refl (stop !))) (look-in ! 22 (sub ! 1 refl (whole !)))) (and-then ! (load ! (from ! (fld ! refl (stop !))) (look-in ! 22 (sub ! 2 refl (whole !)))) (no-more !)))))) (λ v.
           use1 W (later (some (λ (u : Unit {0}). ((‵ (flft κ₃ q₃) ⊛ ‵ (flft κ₂ q₂) ⊛ ‵ ftrue) ⊛ ‵ (Nothing .own u (v ∷ []))) ⊛ raw (ensured 𝓤 H A sw.ended (sw.clauses 𝓤 H A at-mem run) (κ₃, (κ₂, tt)) (to-store was r is .0 .3) tt u)))) (id⊢ 𝓤 _) $ await ! tt $ pick ! (λ u.
           split ! $ move ! (1 ∷ []) $ use1 W (some (λ (zs : Lasts sw.ended (κ₃, (κ₂, tt)) (to-store was r is .0 .3)). ‵ (lasts sw.ended (κ₃, (κ₂, tt)) (to-store was r is .0 .3) zs) ⊛ raw (fact 𝓤 (Wrote r (zs .0))))) (id⊢ 𝓤 _) $ pick ! (λ zs.
           split ! $ move ! (1 ∷ []) $ heard ! (Wrote r (zs .0)) (λ wrote. fsplit ! $ fsplit ! $ move ! (1 ∷ []) $ feqL ! (λ l.
           -- [what says the last list; the rest of that; the tokens and the result; file; the state's four; the locals]
           move ! (2 ∷ []) $ split ! $ move ! (1 ∷ []) $ peeks ! Nothing (Is Nothing) (shows 𝓤 H A Nothing) u (v ∷ []) (λ is₂. drop ! $
-          land ! (from ! (stop !)) (init ! 20 refl (nothing-lawful 𝓤 H A W .typed u _ is₂ .0)) $ forget ! 20 refl $ forget ! 16 refl $ forget ! 18 refl $
-          split ! $ move ! (1 ∷ []) $ split ! $ keep ! (6 ∷ 7 ∷ 8 ∷ 9 ∷ 0 ∷ 2 ∷ 3 ∷ 5 ∷ 10 ∷ 11 ∷ 12 ∷ 13 ∷ 14 ∷ 15 ∷ 16 ∷ 17 ∷ 18 ∷ 19 ∷ 20 ∷ 21 ∷ 22 ∷ 23 ∷ 24 ∷ 25 ∷ 26 ∷ 27 ∷ 28 ∷ 29 ∷ 30 ∷ 31 ∷ 32 ∷ 33 ∷ 34 ∷ 35 ∷ 36 ∷ 37 ∷ 38 ∷ 39 ∷ []) $
+          land ! (from ! (stop !)) (init ! 18 refl (nothing-lawful 𝓤 H A W .typed u _ is₂ .0)) $ forget ! 18 refl $ forget ! 14 refl $ forget ! 16 refl $
+          split ! $ move ! (1 ∷ []) $ split ! $ keep ! (6 ∷ 7 ∷ 8 ∷ 9 ∷ 0 ∷ 2 ∷ 3 ∷ 5 ∷ 10 ∷ 11 ∷ 12 ∷ 13 ∷ 14 ∷ 15 ∷ 16 ∷ 17 ∷ 18 ∷ 19 ∷ 20 ∷ 21 ∷ 22 ∷ 23 ∷ 24 ∷ 25 ∷ 26 ∷ 27 ∷ 28 ∷ 29 ∷ 30 ∷ 31 ∷ 32 ∷ 33 ∷ 34 ∷ 35 ∷ 36 ∷ 37 ∷ []) $
           ends r (zs .0) e taken was is wrote l z at-end))))))
 
       -- any other call: the borrow is closed, and state and run are given up
@@ -312,55 +310,55 @@ module _ {M : Type 1} (𝓤 : URA M) (H : Heap 𝓤) (A : Atoms 𝓤) (W : Given
           -- [obs; the borrow; the state's token; file's token; run's token; run; file; the locals]
           feqI ! (List Val) (vptr b o ∷ []) (vptr b o ∷ []) refl $ fjoin3 ! $ move ! (1 ∷ 2 ∷ 3 ∷ 0 ∷ 5 ∷ 4 ∷ []) $
           -- [the three tokens; state; file; run; the locals]
-          assigns ! (addr ! (from ! (hop ! (look ! 32 refl) (stop !)))) (from ! (stop !)) (init ! 10 refl (tt, tt)) $
-          assigns ! (addr ! (from ! (fld ! refl (hop ! (look-in ! 28 (sub ! 0 refl (whole !))) (stop !))))) (from ! (stop !)) (init ! 8 refl (tt, tt)) $
-          assigns ! (agg ! (and-then ! (load ! (from ! (stop !)) (look ! 8 refl)) (and-then ! (load ! (from ! (fld ! refl (stop !))) (look-in ! 28 (sub ! 1 refl (whole !)))) (no-more !)))) (from ! (stop !)) (init ! 6 refl (tt, (tt, (record { fits = room₃ .0 }, tt)))) $
+          assigns ! (addr ! (from ! (hop ! (look ! 30 refl) (stop !)))) (from ! (stop !)) (init ! 10 refl (tt, tt)) $
+          assigns ! (addr ! (from ! (fld ! refl (hop ! (look-in ! 26 (sub ! 0 refl (whole !))) (stop !))))) (from ! (stop !)) (init ! 8 refl (tt, tt)) $
+          assigns ! (agg ! (and-then ! (load ! (from ! (stop !)) (look ! 8 refl)) (and-then ! (load ! (from ! (fld ! refl (stop !))) (look-in ! 26 (sub ! 1 refl (whole !)))) (no-more !)))) (from ! (stop !)) (init ! 6 refl (tt, (tt, (record { fits = room₃ .0 }, tt)))) $
           move ! (4 ∷ []) $ use1 W (‵ File ⊛ ‵ File) (shr-slice-copy 𝓤 H A W (named 1) κ₂ u8 .twice x₂ (s₂ ∷ [])) $ split ! $
           move ! (0 ∷ 6 ∷ []) $ join ! $ move ! (5 ∷ 0 ∷ []) $ join ! $ move ! (4 ∷ 0 ∷ []) $ join ! $ move ! (2 ∷ 3 ∷ 0 ∷ []) $ use3 W (raw (Advances 𝓤 H A at-mem run .pre to)) goes $
           -- [the callee's need; file; the locals]
-          calls-at ! fm (Advances 𝓤 H A at-mem run) known to (and-then ! (load ! (from ! (stop !)) (look ! 6 refl)) (and-then ! (load ! (from ! (stop !)) (look ! 26 refl)) (and-then ! (load ! (from ! (stop !)) (look ! 2 refl)) (no-more !)))) (λ v.
+          calls-at ! fm (Advances 𝓤 H A at-mem run) known to (and-then ! (load ! (from ! (stop !)) (look ! 6 refl)) (and-then ! (load ! (from ! (stop !)) (look ! 24 refl)) (and-then ! (load ! (from ! (stop !)) (look ! 2 refl)) (no-more !)))) (λ v.
           use1 W (later (some (λ (r : Vsync). ((‵ (flft κ q) ⊛ ‵ (flft κ₂ q₂) ⊛ ‵ (flft κ₃ q₃) ⊛ ‵ ftrue) ⊛ ‵ (Y.the-row .own r (v ∷ []))) ⊛ raw (ensured 𝓤 H A pv.ended (pv.clauses 𝓤 H A at-mem run) (κ, (κ₂, (κ₃, tt))) args tt r)))) (id⊢ 𝓤 _) $ await ! tt $ pick ! (λ r.
           split ! $ move ! (1 ∷ []) $ use1 W (some (λ (ws : Lasts pv.ended (κ, (κ₂, (κ₃, tt))) args). ‵ (lasts pv.ended (κ, (κ₂, (κ₃, tt))) args ws) ⊛ raw (fact 𝓤 (Told r (ws .0) (ws .1 .1 .0))))) (id⊢ 𝓤 _) $ pick ! (λ ws.
           split ! $ move ! (1 ∷ []) $ heard ! (Told r (ws .0) (ws .1 .1 .0)) (λ told. fsplit ! $ move ! (1 ∷ []) $ fsplit ! $ drop ! $ fsplit ! $ fsplit ! $ move ! (1 ∷ []) $ feqL ! (λ l.
           -- [the last run; the rest of that; the last state; the tokens and the result; file; the locals]
           move ! (3 ∷ []) $ split ! $ move ! (1 ∷ []) $ peeks ! Y.the-row (Is Y.the-row) (shows 𝓤 H A Y.the-row) r (v ∷ []) (λ is. drop ! $
-          land ! (from ! (stop !)) (init ! 33 refl (LL.lawful Y.the-type Y′.the-laws 𝓤 H A W .typed r _ is .0)) $ rewrite ! 33 (λ (u : Val). ‵ (fat fullShare Y′.mir l₀ 0 u)) (ap only (LL.tells Y.the-type Y′.the-laws r _ is)) refl $
-          returns ! (look ! 33 refl) $ forget ! 33 refl $ forget ! 31 refl $ forget ! 29 refl $ forget ! 27 refl $ forget ! 25 refl $ forget ! 23 refl $ forget ! 21 refl $ forget ! 19 refl $ forget ! 9 refl $ forget ! 7 refl $ forget ! 5 refl $ move ! (33 ∷ 34 ∷ []) $ free1 ! $ move ! (31 ∷ 32 ∷ []) $ free1 ! $ move ! (29 ∷ 30 ∷ []) $ free1 ! $ move ! (27 ∷ 28 ∷ []) $ free1 ! $ move ! (25 ∷ 26 ∷ []) $ free1 ! $ move ! (23 ∷ 24 ∷ []) $ free1 ! $ move ! (21 ∷ 22 ∷ []) $ free1 ! $ move ! (19 ∷ 20 ∷ []) $ free1 ! $ move ! (17 ∷ 18 ∷ []) $ free1 ! $ move ! (15 ∷ 16 ∷ []) $ free1 ! $ move ! (13 ∷ 14 ∷ []) $ free1 ! $ move ! (11 ∷ 12 ∷ []) $ free1 ! $ move ! (9 ∷ 10 ∷ []) $ free1 ! $ move ! (7 ∷ 8 ∷ []) $ free1 ! $ move ! (5 ∷ 6 ∷ []) $ free1 ! $ free0 ! $
+          land ! (from ! (stop !)) (init ! 31 refl (LL.lawful Y.the-type Y′.the-laws 𝓤 H A W .typed r _ is .0)) $ rewrite ! 31 (λ (u : Val). ‵ (fat fullShare Y′.mir l₀ 0 u)) (ap only (LL.tells Y.the-type Y′.the-laws r _ is)) refl $
+          returns ! (look ! 31 refl) $ forget ! 31 refl $ forget ! 29 refl $ forget ! 27 refl $ forget ! 25 refl $ forget ! 23 refl $ forget ! 21 refl $ forget ! 19 refl $ forget ! 17 refl $ forget ! 9 refl $ forget ! 7 refl $ forget ! 5 refl $ move ! (31 ∷ 32 ∷ []) $ free1 ! $ move ! (29 ∷ 30 ∷ []) $ free1 ! $ move ! (27 ∷ 28 ∷ []) $ free1 ! $ move ! (25 ∷ 26 ∷ []) $ free1 ! $ move ! (23 ∷ 24 ∷ []) $ free1 ! $ move ! (21 ∷ 22 ∷ []) $ free1 ! $ move ! (19 ∷ 20 ∷ []) $ free1 ! $ move ! (17 ∷ 18 ∷ []) $ free1 ! $ move ! (15 ∷ 16 ∷ []) $ free1 ! $ move ! (13 ∷ 14 ∷ []) $ free1 ! $ move ! (11 ∷ 12 ∷ []) $ free1 ! $ move ! (9 ∷ 10 ∷ []) $ free1 ! $ move ! (7 ∷ 8 ∷ []) $ free1 ! $ move ! (5 ∷ 6 ∷ []) $ free1 ! $ free0 ! $
           split ! $ move ! (1 ∷ []) $ split ! $ move ! (1 ∷ []) $ split ! $ keep ! (6 ∷ 3 ∷ 2 ∷ 0 ∷ 4 ∷ 7 ∷ []) $
           by ! (exits r (ws .0) (ws .1 .1 .0) (subst (Is Y.the-row r) (LL.tells Y.the-type Y′.the-laws r _ is) is) told l)))))))
 
       -- the state is read, and the covered `quick_step` is called
       decides : Is P.the-row h (LL.vals P.the-type P′.the-laws h) → Sq W Entered (runs C Λ En code.Mir.t-1 (atRet En Post))
       decides was =
-          assigns ! (of-opd ! (load ! (from ! (hop ! (look ! 34 refl) (stop !))) (look-raw ! 0 refl))) (from ! (stop !)) (init ! 28 refl (LL.lawful P.the-type P′.the-laws 𝓤 H A W .typed h _ was .0)) $
-          assigns ! (of-opd ! (load ! (from ! (fld ! refl (stop !))) (look-in ! 30 (sub ! 1 refl (whole !))))) (from ! (stop !)) (init ! 24 refl (tt, record { fits = room₃ .0 })) $
+          assigns ! (of-opd ! (load ! (from ! (hop ! (look ! 32 refl) (stop !))) (look-raw ! 0 refl))) (from ! (stop !)) (init ! 26 refl (LL.lawful P.the-type P′.the-laws 𝓤 H A W .typed h _ was .0)) $
+          assigns ! (of-opd ! (load ! (from ! (fld ! refl (stop !))) (look-in ! 28 (sub ! 1 refl (whole !))))) (from ! (stop !)) (init ! 22 refl (tt, record { fits = room₃ .0 })) $
           move ! (7 ∷ []) $ use1 W (‵ File ⊛ ‵ File) (shr-slice-copy 𝓤 H A W (named 1) κ₂ u8 .twice x₂ (s₂ ∷ [])) $ split ! $ move ! (6 ∷ 0 ∷ []) $
           use2 W (raw (Decides 𝓤 H A at-mem run .pre (to-step was))) (goes-step was) $
-          calls-at ! fm (Decides 𝓤 H A at-mem run) known-step (to-step was) (and-then ! (load ! (from ! (stop !)) (look ! 32 refl)) (and-then ! (load ! (from ! (fld ! refl (stop !))) (look-in ! 28 (sub ! 0 refl (whole !)))) (and-then ! (load ! (from ! (fld ! refl (fld ! refl (stop !)))) (look-in ! 28 (sub ! 1 refl (sub ! 1 refl (whole !))))) (and-then ! (load ! (from ! (fld ! refl (stop !))) (look-in ! 28 (sub ! 3 refl (whole !)))) (and-then ! (load ! (from ! (stop !)) (look ! 24 refl)) (no-more !)))))) (λ v.
+          calls-at ! fm (Decides 𝓤 H A at-mem run) known-step (to-step was) (and-then ! (load ! (from ! (stop !)) (look ! 30 refl)) (and-then ! (load ! (from ! (fld ! refl (stop !))) (look-in ! 26 (sub ! 0 refl (whole !)))) (and-then ! (load ! (from ! (fld ! refl (fld ! refl (stop !)))) (look-in ! 26 (sub ! 1 refl (sub ! 1 refl (whole !))))) (and-then ! (load ! (from ! (fld ! refl (stop !))) (look-in ! 26 (sub ! 3 refl (whole !)))) (and-then ! (load ! (from ! (stop !)) (look ! 22 refl)) (no-more !)))))) (λ v.
           use1 W (later (some (λ (r : Step). ((‵ (flft κ₂ q₂) ⊛ ‵ ftrue) ⊛ ‵ (Q.the-row .own r (v ∷ []))) ⊛ raw (ensured 𝓤 H A qs.ended (qs.clauses 𝓤 H A at-mem run) (κ₂, tt) (to-step was .0 .3) tt r)))) (id⊢ 𝓤 _) $ await ! tt $ pick ! (λ r.
           split ! $ move ! (1 ∷ []) $ use1 W (raw (fact 𝓤 (Stepped r))) (said 𝓤 H A at-mem run κ₂ x₂ (h .header) (h .cards .count) (h .progress) (length ys) r) $ heard ! (Stepped r) (λ e. split ! $ move ! (1 ∷ []) $
           peeks ! Q.the-row (Is Q.the-row) (shows 𝓤 H A Q.the-row) r (v ∷ []) (λ is. drop ! $
-          land ! (from ! (stop !)) (init ! 26 refl (LL.lawful Q.the-type Q′.the-laws 𝓤 H A W .typed r _ is .0)) $ rewrite ! 26 (λ (u : Val). ‵ (fat fullShare Q′.mir l₅ 0 u)) (ap only (LL.tells Q.the-type Q′.the-laws r _ is)) refl $
-          split ! $ keep ! (3 ∷ 4 ∷ 5 ∷ 6 ∷ 0 ∷ 7 ∷ 8 ∷ 2 ∷ 9 ∷ 10 ∷ 11 ∷ 12 ∷ 13 ∷ 14 ∷ 15 ∷ 16 ∷ 17 ∷ 18 ∷ 19 ∷ 20 ∷ 21 ∷ 22 ∷ 23 ∷ 24 ∷ 25 ∷ 26 ∷ 27 ∷ 28 ∷ 29 ∷ 30 ∷ 31 ∷ 32 ∷ 33 ∷ 34 ∷ 35 ∷ 36 ∷ 37 ∷ 38 ∷ []) $
+          land ! (from ! (stop !)) (init ! 24 refl (LL.lawful Q.the-type Q′.the-laws 𝓤 H A W .typed r _ is .0)) $ rewrite ! 24 (λ (u : Val). ‵ (fat fullShare Q′.mir l₅ 0 u)) (ap only (LL.tells Q.the-type Q′.the-laws r _ is)) refl $
+          split ! $ keep ! (3 ∷ 4 ∷ 5 ∷ 6 ∷ 0 ∷ 7 ∷ 8 ∷ 2 ∷ 9 ∷ 10 ∷ 11 ∷ 12 ∷ 13 ∷ 14 ∷ 15 ∷ 16 ∷ 17 ∷ 18 ∷ 19 ∷ 20 ∷ 21 ∷ 22 ∷ 23 ∷ 24 ∷ 25 ∷ 26 ∷ 27 ∷ 28 ∷ 29 ∷ 30 ∷ 31 ∷ 32 ∷ 33 ∷ 34 ∷ 35 ∷ 36 ∷ []) $
           decided r e was (subst (Is Q.the-row r) (LL.tells Q.the-type Q′.the-laws r _ is) is)))))
         where
           decided : (r : Step) → Stepped r → Is P.the-row h (LL.vals P.the-type P′.the-laws h) → Is Q.the-row r (LL.vals Q.the-type Q′.the-laws r) → Sq W (Decided r) (runs C Λ En code.Mir.t-4 (atRet En Post))
           decided r e was is =
-              assigns ! (of-opd ! (load ! (from ! (fld ! refl (stop !))) (look-in ! 26 (sub ! 0 refl (whole !))))) (from ! (stop !)) (init ! 22 refl (tt, tt)) $
-              first ! $ branches ! (load ! (from ! (stop !)) (look ! 22 refl)) (λ t. takes r e (holds (r .taken) t) was is _ refl) (λ t. skips ! $ exec ! C Λ En code.Mir.t-6 (atRet En Post) $ passes r was)
+              assigns ! (of-opd ! (load ! (from ! (fld ! refl (stop !))) (look-in ! 24 (sub ! 0 refl (whole !))))) (from ! (stop !)) (init ! 20 refl (tt, tt)) $
+              first ! $ branches ! (load ! (from ! (stop !)) (look ! 20 refl)) (λ t. takes r e (holds (r .taken) t) was is _ refl) (λ t. skips ! $ exec ! C Λ En code.Mir.t-6 (atRet En Post) $ passes r was)
 
     walk : ent 𝓤 (onEntry 𝓤 H A f.signature (κ, (κ₂, (κ₃, tt))) (q, (q₂, (q₃, tt))) args vals) (WpFn 𝓤 H C Λ code.function (vptr b o ∷ s₂ ∷ s₃ ∷ []) Post)
     walk =
         qed W ((‵ (flft κ q) ⊛ ‵ (flft κ₂ q₂) ⊛ ‵ (flft κ₃ q₃) ⊛ ‵ ftrue) ∷ ‵ (owns (MutRef (named 0) κ P.the-row ∷ ShrSlice (named 1) κ₂ u8 ∷ MutSlice (named 2) κ₃ T.the-row ∷ []) args vals) ∷ []) ∵ enter ! C Λ code.function (vptr b o ∷ s₂ ∷ s₃ ∷ []) _ $
-        alloc1 ! (λ l₀. alloc1 ! (λ l₁. alloc1 ! (λ l₂. alloc1 ! (λ l₃. alloc1 ! (λ l₄. alloc1 ! (λ l₅. alloc1 ! (λ l₆. alloc1 ! (λ l₇. alloc1 ! (λ l₈. alloc1 ! (λ l₉. alloc1 ! (λ l₁₀. alloc1 ! (λ l₁₁. alloc1 ! (λ l₁₂. alloc1 ! (λ l₁₃. alloc1 ! (λ l₁₄. alloc0 ! $ params1 ! $
-        pass1 ! (init ! 26 refl (tt, tt)) $ pass1 ! (init ! 24 refl (tt, (tt, (record { fits = room₂ .0 }, tt)))) $ pass1 ! (init ! 22 refl (tt, (tt, (record { fits = room₃ .0 }, tt)))) $ pass0 ! $
+        alloc1 ! (λ l₀. alloc1 ! (λ l₁. alloc1 ! (λ l₂. alloc1 ! (λ l₃. alloc1 ! (λ l₄. alloc1 ! (λ l₅. alloc1 ! (λ l₆. alloc1 ! (λ l₇. alloc1 ! (λ l₈. alloc1 ! (λ l₉. alloc1 ! (λ l₁₀. alloc1 ! (λ l₁₁. alloc1 ! (λ l₁₂. alloc1 ! (λ l₁₃. alloc0 ! $ params1 ! $
+        pass1 ! (init ! 24 refl (tt, tt)) $ pass1 ! (init ! 22 refl (tt, (tt, (record { fits = room₂ .0 }, tt)))) $ pass1 ! (init ! 20 refl (tt, (tt, (record { fits = room₃ .0 }, tt)))) $ pass0 ! $
         -- [the locals; the tokens; what the parameters own]
-        move ! (31 ∷ []) $ fsplit ! $ move ! (1 ∷ []) $ fsplit ! $ move ! (1 ∷ []) $ fsplit ! $ move ! (1 ∷ []) $ drop ! $
-        move ! (33 ∷ []) $ split ! $ move ! (1 ∷ []) $ split ! $ move ! (1 ∷ []) $ split ! $ move ! (1 ∷ []) $ drop ! $ move ! (5 ∷ []) $ fsplit3 ! $ drop ! $ move ! (0 ∷ 1 ∷ 4 ∷ []) $
+        move ! (29 ∷ []) $ fsplit ! $ move ! (1 ∷ []) $ fsplit ! $ move ! (1 ∷ []) $ fsplit ! $ move ! (1 ∷ []) $ drop ! $
+        move ! (31 ∷ []) $ split ! $ move ! (1 ∷ []) $ split ! $ move ! (1 ∷ []) $ split ! $ move ! (1 ∷ []) $ drop ! $ move ! (5 ∷ []) $ fsplit3 ! $ drop ! $ move ! (0 ∷ 1 ∷ 4 ∷ []) $
         -- [obs; the borrow; the token; run's token; file's token; run; file; the locals]
         opens ! tt P.the-row {h = h} b o (λ vs. spelt ! P.the-row (Is P.the-row) (shows 𝓤 H A P.the-row) (LL.vals P.the-type P′.the-laws) (LL.tells P.the-type P′.the-laws) fullShare h vs b o $
         move ! (1 ∷ []) $ peeks ! P.the-row (Is P.the-row) (shows 𝓤 H A P.the-row) h (LL.vals P.the-type P′.the-laws h) (λ was. drop ! $ move ! (0 ∷ 1 ∷ 2 ∷ 3 ∷ 5 ∷ 4 ∷ []) $
-        decides l₀ l₁ l₂ l₃ l₄ l₅ l₆ l₇ l₈ l₉ l₁₀ l₁₁ l₁₂ l₁₃ l₁₄ was)))))))))))))))))
+        decides l₀ l₁ l₂ l₃ l₄ l₅ l₆ l₇ l₈ l₉ l₁₀ l₁₁ l₁₂ l₁₃ was))))))))))))))))
 
 module _ {M : Type 1} (𝓤 : URA M) (H : Heap 𝓤) (A : Atoms 𝓤) (W : Given 𝓤 H A) (at-mem : Memory → SProp 𝓤) (run : Routine → Fun 𝓤) where
   busy-vsync-walks : (C : Calls 𝓤 H) (Λ : Loops 𝓤 H) → FmC 𝓤 H (W .laws) C → Triple 𝓤 (C #quick-step) (Decides 𝓤 H A at-mem run) → Triple 𝓤 (C #store-writes) (Stores 𝓤 H A at-mem run) → Triple 𝓤 (C #player·planned-vsync) (Advances 𝓤 H A at-mem run) → Walks 𝓤 H A f.ended stayed (WpFn 𝓤 H C Λ code.function) (f.clauses 𝓤 H A at-mem run)
