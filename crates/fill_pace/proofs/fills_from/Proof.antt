@@ -3,7 +3,7 @@ use borrow.Author.Needs.{needs}
 use native.Mathlib.Omega.{arith}
 use borrow.Author.Tests.{eq-eqb, ne-eqb, le-ltb, lt-ltb}
 use Prim.Native.Nat.{ℕ, _+_, _≤_}
-use mathlib.Core.Path.{_≡_, refl, sym, _∙_}
+use mathlib.Core.Path.{_≡_, refl, _∙_}
 use mathlib.Core.Bool.{true, false, _||_, or-true}
 use native.Mathlib.Nat.{add-zero}
 use lib.Dec.{eqb, ltb}
@@ -35,7 +35,7 @@ said q =
     let w = q .before in
     let l = w .before .before .before .before .before in
     let a = l .before .before .args in
-    rw (count-within (a .file .now) (a .width) (a .starts .now) (a .ends .now) (a .limit) (l .loop .at) (omega arith), ← (w .window .ensures)) (sym (q .fill-count .ensures))
+    rw (count-within (a .file .now) (a .width) (a .starts .now) (a .ends .now) (a .limit) (l .loop .at) (omega arith), ← (w .window .ensures), q .fill-count .ensures)
 
 -- an operation that has a count has the opcode 0 or 1
 low : (e : tie.Else6 Inv-loop μ-loop) → byte (e .before .before .before .before .window .result .now) 0 ≤ 1
