@@ -97,6 +97,7 @@ module _ (state : StreamPlayer) (file : List ℕ) (limit at : ℕ) (pooled : eqb
       let fine = fill-passes at (owners state target) (be width file (at + 2)) (be 4 file (at + 2 + width)) (rw (fill-start (owners state) target below, fill-end (owners state) target below) at inside) in
       let there = filled (owners state target) (be width file (at + 2)) (be 4 file (at + 2 + width)) fine in
       record { item = record { operation = operation 1; next = at + sizeOf width 1 }; is = whole 1 is (omega arith) (omega arith) refl there (rw (usable-there (versionOf state) (cardsOf (state .cards)) target there .1) at fine) refl; writes = refl; next = behind 1 7 is size refl; waves = λ waves. refl }
+
   -- by the opcode
   opcode-used : (b : Bool) → eqb (byte file at) 0 ≡ b → byte file at ≤ 1 → target ≤ 15 → outOfBulk (be width file (at + 2)) (countBy (byte file at) (be 4 file (at + 2 + width))) (getD (startsIn state) (16 * byte file at + target) 0) (getD (endsIn state) (16 * byte file at + target) 0) ≡ false → Used state file limit at (countBy (byte file at) (be 4 file (at + 2 + width)))
   opcode-used true e low small inside =

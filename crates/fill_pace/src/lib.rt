@@ -60,12 +60,7 @@ fn count_by(opcode: u8, length: u32) -> u32
 }
 
 // How many writes the operation in 16 bytes makes if it is a WRITE or a FILL that the ranges allow, else 0.
-fn fill_count(
-    bytes: &[u8],
-    width: usize,
-    starts: &[u32; RANGES],
-    ends: &[u64; RANGES],
-) -> u32
+fn fill_count(bytes: &[u8], width: usize, starts: &[u32; RANGES], ends: &[u64; RANGES]) -> u32
     requires { ⌜ (3 ≤ width) × (width ≤ 4) ⌝ }
     ensures { λ r. ⌜ r ≡ fillCount width (now (bytes .entry)) (now (starts .entry)) (now (ends .entry)) ⌝ }
 {
@@ -159,5 +154,15 @@ pub fn pace_fills(
     let mut ends: [u64; RANGES] = [0; RANGES];
     address_ranges(version, cards, &mut starts, &mut ends);
     let width = address_width(version);
-    fills_from(file, width, &starts, &ends, limit, left, room, cursor, writes)
+    fills_from(
+        file,
+        width,
+        &starts,
+        &ends,
+        limit,
+        left,
+        room,
+        cursor,
+        writes,
+    )
 }
