@@ -1,31 +1,31 @@
--- The loop's invariant: the bytes from `i` on decide.
-use native.Mathlib.Omega.{arith}
-use Prim.Native.Nat.{_-_}
-use mathlib.Core.Path.{_≡_, refl}
-use borrow.Author.Tests.{eq-eqb, ne-eqb}
-use lib.ListN.{drop, drop-of-length-le}
-use Rattle.format.specs.Bytes.{allZero}
-use Rattle.card_rules.proofs.Zeros.{zeros-step}
+-- The loop's invariant: the bytes from `i` on decide, and those before it that are kept in `some`.
 use borrow.Author.Needs.{needs}
+use native.Mathlib.Omega.{arith}
+use Prim.Native.Nat.{_-_, _≤_, max}
+use mathlib.Core.Bool.{_&&_}
+use mathlib.Core.Path.{_≡_, _∙_}
+use lib.Dec.{eqb}
+use lib.ListN.{drop}
+use Rattle.format.specs.Bytes.{allZero}
+use Rattle.card_rules.proofs.Zeros.{padding-first, padding-step, padding-last}
 use Rattle.card_rules.proofs.padding_wrong.Statement.{statement}
 use Rattle.card_rules.proofs.padding_wrong.Tie as tie
 
 abbrev Inv-loop : tie.InvT-loop
-Inv-loop id-length id i₀ i = allZero (drop id-length id) ≡ allZero (drop i id)
+Inv-loop id-length id some₀ i₀ some i =
+    (i ≤ 16) × (allZero (drop id-length id) ≡ (eqb some 0 && allZero (drop (max id-length i) id)))
 
 abbrev μ-loop : tie.MeasureT-loop
-μ-loop id-length id i₀ i = 16 - i
+μ-loop id-length id some₀ i₀ some i = 16 - i
 
 loop-holds : tie.Need-loop-holds Inv-loop μ-loop
-loop-holds c = refl
+loop-holds c = (omega arith, padding-first (c .args .t1) (c .args .id-length))
 
-array-read-if1 : tie.Need-array-read-if1 Inv-loop μ-loop
-array-read-if1 c = search needs
+array-read-padding : tie.Need-array-read-padding Inv-loop μ-loop
+array-read-padding c = search needs
 
-returns : tie.Need-returns Inv-loop μ-loop
-returns c =
-    let l = c .before .before in
-    rw (l .loop .inv, zeros-step (l .before .args .t1) (l .loop .i) (omega (arith, l .before .good)), ne-eqb _ _ (c .if1 .taken))
+padding-requires : tie.Need-padding-requires Inv-loop μ-loop
+padding-requires c κs = search needs
 
 add-i : tie.Need-add-i Inv-loop μ-loop
 add-i c = search needs
@@ -36,12 +36,14 @@ loop-less c = search needs
 loop-again : tie.Need-loop-again Inv-loop μ-loop
 loop-again c =
     let l = c .before .before in
-    rw (l .loop .inv, zeros-step (l .before .args .t1) (l .loop .i) (omega (arith, l .before .good)), eq-eqb _ _ (c .if1 .left))
+    let s = l .before in
+    (omega arith, rw (c .padding .ensures) (l .loop .inv .1 ∙ padding-step (s .args .t1) (s .args .id-length) (l .loop .i) (l .loop .some) (omega (arith, s .good))))
 
-returns-2 : tie.Need-returns-2 Inv-loop μ-loop
-returns-2 c =
+returns : tie.Need-returns Inv-loop μ-loop
+returns c =
     let l = c .before in
-    rw (l .loop .inv, drop-of-length-le (l .before .args .t1) {i = l .loop .i} (omega (arith, l .before .good)))
+    let s = l .before in
+    rw (l .loop .inv .1, padding-last (s .args .t1) (s .args .id-length) (l .loop .i) (l .loop .some) (omega (arith, s .good)))
 
 pub padding-wrong-spec : {M : Type 1} → statement M
 padding-wrong-spec =
@@ -50,9 +52,9 @@ padding-wrong-spec =
     Inv-loop
     μ-loop
     loop-holds
-    array-read-if1
-    returns
+    array-read-padding
+    padding-requires
     add-i
     loop-less
     loop-again
-    returns-2)
+    returns)

@@ -1,0 +1,105 @@
+use borrow.Author.Needs.{needs}
+use native.Mathlib.Omega.{arith}
+use borrow.Author.Tests.{lt-ltb, le-ltb}
+use Rattle.fill_pace.specs.Fills.{fillCount}
+use Rattle.fill_pace.proofs.fill_count.Statement.{statement}
+use Rattle.fill_pace.proofs.fill_count.Tie as tie
+
+byte-at-requires : tie.Need-byte-at-requires
+byte-at-requires c κs = search needs
+
+byte-at-requires-2 : tie.Need-byte-at-requires-2
+byte-at-requires-2 c κs = search needs
+
+returns : tie.Need-returns
+unfolding fillCount
+returns c = simp (← (c .before .before .byte-at .ensures), lt-ltb _ _ (c .if1 .taken))
+
+returns-2 : tie.Need-returns-2
+unfolding fillCount
+returns-2 c = simp (← (c .before .before .before .byte-at .ensures), ← (c .before .before .byte-at2 .ensures), le-ltb _ _ (c .before .if1 .left), lt-ltb _ _ (c .if2 .taken))
+
+read-address-requires : tie.Need-read-address-requires
+read-address-requires c κs = search needs
+
+add-read-u32 : tie.Need-add-read-u32
+add-read-u32 c = search needs
+
+read-u32-requires : tie.Need-read-u32-requires
+read-u32-requires c κs = search needs
+
+count-by-requires : tie.Need-count-by-requires
+count-by-requires c κs = search needs
+
+cast-k : tie.Need-cast-k
+cast-k c = search needs
+
+mul-k : tie.Need-mul-k
+mul-k c = search needs
+
+cast-k-2 : tie.Need-cast-k-2
+cast-k-2 c = search needs
+
+add-k : tie.Need-add-k
+add-k c = search needs
+
+mul-out-of-bulk : tie.Need-mul-out-of-bulk
+mul-out-of-bulk c = search needs
+
+element-copy-out-out-of-bulk : tie.Need-element-copy-out-out-of-bulk
+element-copy-out-out-of-bulk c = search needs
+
+mul-out-of-bulk-2 : tie.Need-mul-out-of-bulk-2
+mul-out-of-bulk-2 c = search needs
+
+element-copy-out-out-of-bulk-2 : tie.Need-element-copy-out-out-of-bulk-2
+element-copy-out-out-of-bulk-2 c = search needs
+
+out-of-bulk-requires : tie.Need-out-of-bulk-requires
+out-of-bulk-requires c κs = search needs
+
+returns-3 : tie.Need-returns-3
+unfolding fillCount
+returns-3 c =
+    let o = c .before in
+    let n = o .before .before .before in
+    let u = n .before in
+    let a = u .before in
+    let e = a .before in
+    let b = e .before .before in
+    simp (← (b .before .byte-at .ensures), ← (b .byte-at2 .ensures), le-ltb _ _ (e .before .if1 .left), le-ltb _ _ (e .if2 .left), ← (a .read-address .ensures), ← (u .read-u32 .ensures), ← (n .count-by .ensures), ← (o .out-of-bulk .ensures), c .if3 .taken)
+
+returns-4 : tie.Need-returns-4
+unfolding fillCount
+returns-4 c =
+    let o = c .before in
+    let n = o .before .before .before in
+    let u = n .before in
+    let a = u .before in
+    let e = a .before in
+    let b = e .before .before in
+    simp (← (b .before .byte-at .ensures), ← (b .byte-at2 .ensures), le-ltb _ _ (e .before .if1 .left), le-ltb _ _ (e .if2 .left), ← (a .read-address .ensures), ← (u .read-u32 .ensures), ← (n .count-by .ensures), ← (o .out-of-bulk .ensures), c .if3 .left)
+
+pub fill-count-spec : {M : Type 1} → statement M
+fill-count-spec =
+    tie.close
+    (tie.spec
+    byte-at-requires
+    byte-at-requires-2
+    returns
+    returns-2
+    read-address-requires
+    add-read-u32
+    read-u32-requires
+    count-by-requires
+    cast-k
+    mul-k
+    cast-k-2
+    add-k
+    mul-out-of-bulk
+    element-copy-out-out-of-bulk
+    mul-out-of-bulk-2
+    element-copy-out-out-of-bulk-2
+    out-of-bulk-requires
+    returns-3
+    returns-4)

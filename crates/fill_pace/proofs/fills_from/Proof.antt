@@ -1,0 +1,217 @@
+-- `fill_pace::fills_from` meets its contract: what remains decides. Assumes nothing.
+use borrow.Author.Needs.{needs}
+use native.Mathlib.Omega.{arith}
+use borrow.Author.Tests.{eq-eqb, ne-eqb, le-ltb, lt-ltb}
+use Prim.Native.Nat.{ℕ, _+_, _≤_}
+use mathlib.Core.Path.{_≡_, refl, _∙_}
+use mathlib.Core.Bool.{true, false, _||_, or-true}
+use native.Mathlib.Nat.{add-zero}
+use lib.Dec.{eqb, ltb}
+use Rattle.format.specs.Bytes.{byte}
+use Rattle.format.proofs.Bytes.{byte-part}
+use Rattle.fill_pace.specs.Fills.{countAt, fillsFrom}
+use Rattle.fill_pace.proofs.Counts.{counted, count-within, count-past}
+use Rattle.fill_pace.proofs.Steps.{fills-end, fills-full, fills-none, fills-step}
+use Rattle.fill_pace.proofs.fills_from.Statement.{statement}
+use Rattle.fill_pace.proofs.fills_from.Tie as tie
+
+abbrev Inv-loop : tie.InvT-loop
+Inv-loop file width starts ends limit left room cursor writes at₀ others₀ free₀ done₀ at others free done =
+    fillsFrom file width starts ends limit left room cursor writes ≡ fillsFrom file width starts ends limit others free at done
+
+abbrev μ-loop : tie.MeasureT-loop
+μ-loop file width starts ends limit left room cursor writes at₀ others₀ free₀ done₀ at others free done =
+    others
+
+-- the count of the operation at a place, by the arguments
+abbrev countOn : tie.After-shared-slice-known Inv-loop μ-loop → ℕ → ℕ
+countOn k at =
+    let a = k .before .args in
+    countAt (a .file .now) (a .width) (a .starts .now) (a .ends .now) (a .limit) at
+
+-- what the table says is that count
+said : (q : tie.After-fill-count Inv-loop μ-loop) → countOn (q .before .before .before .before .before .before .before) (q .before .before .before .before .before .before .loop .at) ≡ q .fill-count .result
+said q =
+    let w = q .before in
+    let l = w .before .before .before .before .before in
+    let a = l .before .before .args in
+    rw (count-within (a .file .now) (a .width) (a .starts .now) (a .ends .now) (a .limit) (l .loop .at) (omega arith), ← (w .window .ensures), q .fill-count .ensures)
+
+-- an operation that has a count has the opcode 0 or 1
+low : (e : tie.Else6 Inv-loop μ-loop) → byte (e .before .before .before .before .window .result .now) 0 ≤ 1
+low e =
+    let q = e .before .before .before in
+    let a = q .before .before .before .before .before .before .before .before .args in
+    counted (a .width) (q .before .window .result .now) (a .starts .now) (a .ends .now) (rw (← (q .fill-count .ensures)) (ne-eqb _ _ (e .before .before .if4 .left))) .opcode
+
+loop-holds : tie.Need-loop-holds Inv-loop μ-loop
+loop-holds c = refl
+
+taken-to-requires : tie.Need-taken-to-requires Inv-loop μ-loop
+taken-to-requires c κs = search needs
+
+returns : tie.Need-returns Inv-loop μ-loop
+returns c =
+    let l = c .before .before .before in
+    let a = l .before .before .args in
+    rw (l .loop .inv, c .before .if1 .taken, fills-full (a .file .now) (a .width) (a .starts .now) (a .ends .now) (a .limit) (l .loop .others)) (c .taken-to .ensures)
+
+not-taken-requires : tie.Need-not-taken-requires Inv-loop μ-loop
+not-taken-requires c κs = search needs
+
+returns-2 : tie.Need-returns-2 Inv-loop μ-loop
+returns-2 c =
+    let l = c .before .before .before .before in
+    let a = l .before .before .args in
+    let none : (eqb (countOn (l .before) (l .loop .at)) 0 || ltb (countOn (l .before) (l .loop .at)) (l .loop .done)) ≡ true = rw (count-past (a .file .now) (a .width) (a .starts .now) (a .ends .now) (a .limit) (l .loop .at) (lt-ltb (a .limit) (l .loop .at + 16) (omega arith))) in
+    rw (l .loop .inv, fills-none (a .file .now) (a .width) (a .starts .now) (a .ends .now) (a .limit) (l .loop .others) (l .loop .free) (l .loop .at) (l .loop .done) (omega arith) (omega arith) none) (c .not-taken .ensures)
+
+not-taken-requires-2 : tie.Need-not-taken-requires-2 Inv-loop μ-loop
+not-taken-requires-2 c κs = search needs
+
+returns-3 : tie.Need-returns-3 Inv-loop μ-loop
+returns-3 c =
+    let l = c .before .before .before .before .before in
+    let a = l .before .before .args in
+    let none : (eqb (countOn (l .before) (l .loop .at)) 0 || ltb (countOn (l .before) (l .loop .at)) (l .loop .done)) ≡ true = rw (count-past (a .file .now) (a .width) (a .starts .now) (a .ends .now) (a .limit) (l .loop .at) (lt-ltb (a .limit) (l .loop .at + 16) (omega arith))) in
+    rw (l .loop .inv, fills-none (a .file .now) (a .width) (a .starts .now) (a .ends .now) (a .limit) (l .loop .others) (l .loop .free) (l .loop .at) (l .loop .done) (omega arith) (omega arith) none) (c .not-taken2 .ensures)
+
+window-requires : tie.Need-window-requires Inv-loop μ-loop
+window-requires c κs = search needs
+
+fill-count-requires : tie.Need-fill-count-requires Inv-loop μ-loop
+fill-count-requires c κs = search needs
+
+not-taken-requires-3 : tie.Need-not-taken-requires-3 Inv-loop μ-loop
+not-taken-requires-3 c κs = search needs
+
+returns-4 : tie.Need-returns-4 Inv-loop μ-loop
+returns-4 c =
+    let l = c .before .before .before .before .before .before .before .before in
+    let a = l .before .before .args in
+    let q = c .before .before in
+    let none : (eqb (countOn (l .before) (l .loop .at)) 0 || ltb (countOn (l .before) (l .loop .at)) (l .loop .done)) ≡ true = rw (said q, eq-eqb _ _ (c .before .if4 .taken)) in
+    rw (l .loop .inv, fills-none (a .file .now) (a .width) (a .starts .now) (a .ends .now) (a .limit) (l .loop .others) (l .loop .free) (l .loop .at) (l .loop .done) (omega arith) (omega arith) none) (c .not-taken3 .ensures)
+
+not-taken-requires-4 : tie.Need-not-taken-requires-4 Inv-loop μ-loop
+not-taken-requires-4 c κs = search needs
+
+returns-5 : tie.Need-returns-5 Inv-loop μ-loop
+returns-5 c =
+    let l = c .before .before .before .before .before .before .before .before .before in
+    let a = l .before .before .args in
+    let q = c .before .before .before in
+    let none : (eqb (countOn (l .before) (l .loop .at)) 0 || ltb (countOn (l .before) (l .loop .at)) (l .loop .done)) ≡ true = rw (said q, lt-ltb _ _ (c .before .if5 .taken), or-true) in
+    rw (l .loop .inv, fills-none (a .file .now) (a .width) (a .starts .now) (a .ends .now) (a .limit) (l .loop .others) (l .loop .free) (l .loop .at) (l .loop .done) (omega arith) (omega arith) none) (c .not-taken4 .ensures)
+
+cast-if6 : tie.Need-cast-if6 Inv-loop μ-loop
+cast-if6 c = search needs
+
+cast-taken-to : tie.Need-cast-taken-to Inv-loop μ-loop
+cast-taken-to c = search needs
+
+add-taken-to : tie.Need-add-taken-to Inv-loop μ-loop
+add-taken-to c = search needs
+
+taken-to-requires-2 : tie.Need-taken-to-requires-2 Inv-loop μ-loop
+taken-to-requires-2 c κs = search needs
+
+returns-6 : tie.Need-returns-6 Inv-loop μ-loop
+returns-6 c =
+    let f = c .before .before in
+    let q = f .before .before in
+    let l = q .before .before .before .before .before .before in
+    let a = l .before .before .args in
+    let some : (eqb (countOn (l .before) (l .loop .at)) 0 || ltb (countOn (l .before) (l .loop .at)) (l .loop .done)) ≡ false = rw (said q, ne-eqb _ _ (f .before .if4 .left), le-ltb _ _ (f .if5 .left)) in
+    let step = fills-step (a .file .now) (a .width) (a .starts .now) (a .ends .now) (a .limit) (l .loop .others) (l .loop .free) (l .loop .at) (l .loop .done) (omega arith) (omega arith) some in
+    rw (l .loop .inv, step, said q, lt-ltb _ _ (c .before .if6 .taken)) (c .taken-to2 .ensures)
+
+cast-free : tie.Need-cast-free Inv-loop μ-loop
+cast-free c = search needs
+
+sub-free : tie.Need-sub-free Inv-loop μ-loop
+sub-free c = search needs
+
+add-at : tie.Need-add-at Inv-loop μ-loop
+add-at c = search needs
+
+byte-at-requires : tie.Need-byte-at-requires Inv-loop μ-loop
+byte-at-requires c κs = search needs
+
+cast-at : tie.Need-cast-at Inv-loop μ-loop
+cast-at c = search needs
+
+mul-at : tie.Need-mul-at Inv-loop μ-loop
+mul-at c = omega (arith, c .byte-at .ensures, low (c .before))
+
+add-at-2 : tie.Need-add-at-2 Inv-loop μ-loop
+add-at-2 c = omega (arith, c .byte-at .ensures, low (c .before))
+
+add-at-3 : tie.Need-add-at-3 Inv-loop μ-loop
+add-at-3 c = omega (arith, c .byte-at .ensures, low (c .before))
+
+sub-others : tie.Need-sub-others Inv-loop μ-loop
+sub-others c = search needs
+
+loop-less : tie.Need-loop-less Inv-loop μ-loop
+loop-less c = search needs
+
+loop-again : tie.Need-loop-again Inv-loop μ-loop
+loop-again c =
+    let f = c .before .before in
+    let q = f .before .before in
+    let w = q .before in
+    let l = w .before .before .before .before .before in
+    let a = l .before .before .args in
+    let opcode : c .byte-at .result ≡ byte (a .file .now) (l .loop .at) = rw (c .byte-at .ensures, w .window .ensures) (byte-part (a .file .now) (l .loop .at) 16 0 (omega arith) ∙ rw add-zero) in
+    let some : (eqb (countOn (l .before) (l .loop .at)) 0 || ltb (countOn (l .before) (l .loop .at)) (l .loop .done)) ≡ false = rw (said q, ne-eqb _ _ (f .before .if4 .left), le-ltb _ _ (f .if5 .left)) in
+    let step = fills-step (a .file .now) (a .width) (a .starts .now) (a .ends .now) (a .limit) (l .loop .others) (l .loop .free) (l .loop .at) (l .loop .done) (omega arith) (omega arith) some in
+    rw (l .loop .inv, step, said q, le-ltb _ _ (c .before .if6 .left), opcode)
+
+taken-to-requires-3 : tie.Need-taken-to-requires-3 Inv-loop μ-loop
+taken-to-requires-3 c κs = search needs
+
+returns-7 : tie.Need-returns-7 Inv-loop μ-loop
+returns-7 c =
+    let l = c .before .before in
+    let a = l .before .before .args in
+    let all : l .loop .others ≡ 0 = omega arith in
+    rw (l .loop .inv, all, fills-end (a .file .now) (a .width) (a .starts .now) (a .ends .now) (a .limit)) (c .taken-to3 .ensures)
+
+pub fills-from-spec : {M : Type 1} → statement M
+fills-from-spec =
+    tie.close
+    (tie.spec
+    Inv-loop
+    μ-loop
+    loop-holds
+    taken-to-requires
+    returns
+    not-taken-requires
+    returns-2
+    not-taken-requires-2
+    returns-3
+    window-requires
+    fill-count-requires
+    not-taken-requires-3
+    returns-4
+    not-taken-requires-4
+    returns-5
+    cast-if6
+    cast-taken-to
+    add-taken-to
+    taken-to-requires-2
+    returns-6
+    cast-free
+    sub-free
+    add-at
+    byte-at-requires
+    cast-at
+    mul-at
+    add-at-2
+    add-at-3
+    sub-others
+    loop-less
+    loop-again
+    taken-to-requires-3
+    returns-7)

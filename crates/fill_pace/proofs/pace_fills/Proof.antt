@@ -1,0 +1,53 @@
+-- `fill_pace::pace_fills` meets its contract. Assumes nothing.
+use borrow.Author.Needs.{needs}
+use native.Mathlib.Omega.{arith}
+use borrow.Author.Tests.{le-leb, lt-leb}
+use mathlib.Core.Bool.{and-false}
+use Rattle.fill_pace.specs.Fills.{fillsPaced}
+use Rattle.fill_pace.proofs.pace_fills.Statement.{statement}
+use Rattle.fill_pace.proofs.pace_fills.Tie as tie
+
+not-taken-requires : tie.Need-not-taken-requires
+not-taken-requires c κs = search needs
+
+returns : tie.Need-returns
+unfolding fillsPaced
+returns c = rw (lt-leb 2 (c .before .before .before .args .version) (c .before .if1 .taken)) (c .not-taken .ensures)
+
+not-taken-requires-2 : tie.Need-not-taken-requires-2
+not-taken-requires-2 c κs = search needs
+
+returns-2 : tie.Need-returns-2
+unfolding fillsPaced
+returns-2 c = rw (lt-leb (c .before .before .before .before .args .version) 4 (c .before .if2 .taken), and-false) (c .not-taken2 .ensures)
+
+address-ranges-requires : tie.Need-address-ranges-requires
+address-ranges-requires c κs = search needs
+
+address-width-requires : tie.Need-address-width-requires
+address-width-requires c κs = search needs
+
+fills-from-requires : tie.Need-fills-from-requires
+fills-from-requires c κs = search needs
+
+returns-3 : tie.Need-returns-3
+unfolding fillsPaced
+returns-3 c =
+    let w = c .before .before .before in
+    let r = w .before in
+    let e = r .before .before .before in
+    let v = e .before .before .before .args .version in
+    rw (le-leb 2 v (e .before .if1 .left), le-leb v 4 (e .if2 .left), c .fills-from .ensures, w .address-width .ensures .0, r .address-ranges .ensures .0, r .address-ranges .ensures .1)
+
+pub pace-fills-spec : {M : Type 1} → statement M
+pace-fills-spec =
+    tie.close
+    (tie.spec
+    not-taken-requires
+    returns
+    not-taken-requires-2
+    returns-2
+    address-ranges-requires
+    address-width-requires
+    fills-from-requires
+    returns-3)

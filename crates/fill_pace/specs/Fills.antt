@@ -1,0 +1,55 @@
+-- A part's operations as far as all of them are WRITEs and FILLs that a table of ranges allows.
+use Prim.Native.Nat.{ℕ, zero, suc, _+_, _*_, _-_}
+use mathlib.Core.Bool.{Bool, true, false, cond, _&&_, _||_}
+use mathlib.Core.List.{List}
+use lib.Dec.{eqb, leb, ltb}
+use lib.ListN.{getD}
+use Rattle.format.specs.declared.card.CardRequirement.{CardRequirement}
+use Rattle.format.specs.Bytes.{byte, be, part}
+use Rattle.format.specs.Operation.{addressWidth}
+use Rattle.quick_rules.specs.Quick.{outOfBulk}
+use Rattle.ranges.specs.Ranges.{startsOf, endsOf}
+use Rattle.fill_pace.specs.declared.FillPace.{FillPace}
+
+-- what is answered
+abbrev pub notTaken : FillPace
+notTaken = record { taken = false; cursor = 0; left = 0; room = 0; writes = 0 }
+
+abbrev pub takenTo : (cursor left room writes : ℕ) → FillPace
+takenTo cursor left room writes = record { taken = true; cursor = cursor; left = left; room = room; writes = writes }
+
+-- how many writes a WRITE or a FILL makes
+abbrev pub countBy : (opcode size : ℕ) → ℕ
+countBy opcode size = cond (eqb opcode 0) 1 size
+
+-- how many writes the operation in a part of 16 bytes makes if it is a WRITE or a FILL that the ranges allow, else 0
+unfoldable pub fillCount : (width : ℕ) → List ℕ → (starts ends : List ℕ) → ℕ
+fillCount width bytes starts ends =
+    let count = countBy (byte bytes 0) (be 4 bytes (2 + width)) in
+    let k = 16 * byte bytes 0 + byte bytes 1 in
+    cond (ltb 1 (byte bytes 0)) 0
+    (cond (ltb 15 (byte bytes 1)) 0
+    (cond (outOfBulk (be width bytes 2) count (getD starts k 0) (getD ends k 0)) 0 count))
+
+-- the same for the operation at a place, which must have 16 bytes before the limit
+unfoldable pub countAt : List ℕ → (width : ℕ) → (starts ends : List ℕ) → (limit at : ℕ) → ℕ
+countAt file width starts ends limit at = cond (ltb limit (at + 16)) 0 (fillCount width (part file at 16) starts ends)
+
+-- the size of a WRITE or a FILL
+abbrev pub sizeAt : List ℕ → (width at : ℕ) → ℕ
+sizeAt file width at = 3 + width + 4 * byte file at
+
+-- so many operations from a cursor, for as many writes as there is room for; of the first one so many writes are made
+unfoldable pub fillsFrom : List ℕ → (width : ℕ) → (starts ends : List ℕ) → (limit left room cursor writes : ℕ) → FillPace
+fillsFrom file width starts ends limit zero room cursor writes = takenTo cursor 0 room writes
+fillsFrom file width starts ends limit (suc left) room cursor writes =
+    let count = countAt file width starts ends limit cursor in
+    cond (eqb room 0) (takenTo cursor (suc left) 0 writes)
+    (cond (eqb count 0 || ltb count writes) notTaken
+    (cond (ltb room (count - writes)) (takenTo cursor (suc left) 0 (writes + room))
+    (fillsFrom file width starts ends limit left (room - (count - writes)) (cursor + sizeAt file width cursor) 0)))
+
+-- with the ranges of a version and its cards. Version 1 has records, and is not taken
+unfoldable pub fillsPaced : List ℕ → (version : ℕ) → List CardRequirement → (limit left room cursor writes : ℕ) → FillPace
+fillsPaced file version cards limit left room cursor writes =
+    cond (leb 2 version && leb version 4) (fillsFrom file (addressWidth version) (startsOf version cards) (endsOf version cards) limit left room cursor writes) notTaken

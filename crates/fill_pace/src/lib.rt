@@ -1,0 +1,168 @@
+// The WRITEs and FILLs that are left of a part, as far as there is room for their writes. Each is compared with a table of ranges,
+// without a branch on its opcode: in real files the opcode cannot be foreseen.
+use big_endian::byte_at;
+use big_endian::read_u32;
+use big_endian::window;
+use format::CardTable;
+use quick_rules::out_of_bulk;
+use ranges::RANGES;
+use ranges::address_ranges;
+use widths::address_width;
+use widths::read_address;
+ghost use mathlib.Core.Path.{_≡_};
+ghost use Prim.Native.Nat.{_≤_};
+ghost use lib.ListN.{length};
+ghost use Rattle.format.specs.Card.{cardsOf};
+ghost use Rattle.fill_pace.specs.Fills.{countBy, fillCount, notTaken, takenTo, fillsFrom, fillsPaced};
+
+// Where the player is then: the cursor, the operations and the room that are left, and the writes made of the operation at the cursor.
+// `taken` is false where an operation is no WRITE or FILL, or is not allowed.
+pub struct FillPace {
+    pub taken: bool,
+    pub cursor: usize,
+    pub left: u32,
+    pub room: usize,
+    pub writes: u32,
+}
+
+fn not_taken() -> FillPace
+    ensures { λ r. ⌜ r ≡ notTaken ⌝ }
+{
+    FillPace {
+        taken: false,
+        cursor: 0,
+        left: 0,
+        room: 0,
+        writes: 0,
+    }
+}
+
+fn taken_to(cursor: usize, left: u32, room: usize, writes: u32) -> FillPace
+    ensures { λ r. ⌜ r ≡ takenTo cursor left room writes ⌝ }
+{
+    FillPace {
+        taken: true,
+        cursor: cursor,
+        left: left,
+        room: room,
+        writes: writes,
+    }
+}
+
+// How many writes a WRITE or a FILL makes. Both numbers are there, so that this is a choice and not a branch once it is compiled.
+fn count_by(opcode: u8, length: u32) -> u32
+    ensures { λ r. ⌜ r ≡ countBy opcode length ⌝ }
+{
+    if opcode == 0 {
+        return 1;
+    }
+    length
+}
+
+// How many writes the operation in 16 bytes makes if it is a WRITE or a FILL that the ranges allow, else 0.
+fn fill_count(bytes: &[u8], width: usize, starts: &[u32; RANGES], ends: &[u64; RANGES]) -> u32
+    requires { ⌜ (3 ≤ width) × (width ≤ 4) ⌝ }
+    ensures { λ r. ⌜ r ≡ fillCount width (now (bytes .entry)) (now (starts .entry)) (now (ends .entry)) ⌝ }
+{
+    let opcode = byte_at(bytes, 0);
+    let target = byte_at(bytes, 1);
+    if 1 < opcode {
+        return 0;
+    }
+    if 15 < target {
+        return 0;
+    }
+    let address = read_address(bytes, width, 2);
+    let count = count_by(opcode, read_u32(bytes, 2 + width));
+    let k = 16 * opcode as usize + target as usize;
+    if out_of_bulk(address, count, starts[k], ends[k]) {
+        return 0;
+    }
+    count
+}
+
+// So many operations from a cursor, the first with so many writes made.
+fn fills_from(
+    file: &[u8],
+    width: usize,
+    starts: &[u32; RANGES],
+    ends: &[u64; RANGES],
+    limit: usize,
+    left: u32,
+    room: usize,
+    cursor: usize,
+    writes: u32,
+) -> FillPace
+    requires { ⌜ (3 ≤ width) × (width ≤ 4) × (limit ≤ length (now file)) ⌝ }
+    ensures { λ r. ⌜ r ≡ fillsFrom (now (file .entry)) width (now (starts .entry)) (now (ends .entry)) limit left room cursor writes ⌝ }
+{
+    let mut at = cursor;
+    let mut others = left;
+    let mut free = room;
+    let mut done = writes;
+    while 0 < others {
+        if free == 0 {
+            return taken_to(at, others, 0, done);
+        }
+        if limit < 16 {
+            return not_taken();
+        }
+        if limit - 16 < at {
+            return not_taken();
+        }
+        let bytes = window(file, at);
+        let count = fill_count(bytes, width, starts, ends);
+        if count == 0 {
+            return not_taken();
+        }
+        if count < done {
+            return not_taken();
+        }
+        let rest = count - done;
+        if free < rest as usize {
+            return taken_to(at, others, 0, done + free as u32);
+        }
+        free -= rest as usize;
+        at += 3 + width + 4 * byte_at(bytes, 0) as usize;
+        others -= 1;
+        done = 0;
+    }
+    taken_to(at, 0, free, done)
+}
+
+// The operations that are left of a part, for as many writes as there is room for.
+pub fn pace_fills(
+    file: &[u8],
+    version: u8,
+    cards: CardTable,
+    limit: usize,
+    left: u32,
+    room: usize,
+    cursor: usize,
+    writes: u32,
+) -> FillPace
+    requires { ⌜ limit ≤ length (now file) ⌝ }
+    ensures { λ r. ⌜ r ≡ fillsPaced (now (file .entry)) version (cardsOf cards) limit left room cursor writes ⌝ }
+{
+    if version < 2 {
+        return not_taken();
+    }
+    if 4 < version {
+        return not_taken();
+    }
+    let mut starts: [u32; RANGES] = [0; RANGES];
+    let mut ends: [u64; RANGES] = [0; RANGES];
+    address_ranges(version, cards, &mut starts, &mut ends);
+    let width = address_width(version);
+    fills_from(
+        file,
+        width,
+        &starts,
+        &ends,
+        limit,
+        left,
+        room,
+        cursor,
+        writes,
+    )
+}

@@ -1,0 +1,100 @@
+use borrow.Author.Needs.{needs}
+use native.Mathlib.Omega.{arith}
+use Prim.Native.Nat.{ℕ, _+_, _-_, _≤_, min}
+use mathlib.Core.Path.{_≡_}
+use mathlib.Core.Bool.{cond}
+use mathlib.Core.List.{[]}
+use lib.Dec.{eqb}
+use lib.ListN.{length, take, drop}
+use Rattle.format.specs.declared.card.CardTable.{CardTable}
+use Rattle.targets.specs.declared.Target.{Target}
+use Rattle.format.specs.Card.{cardsOf}
+use Rattle.format.specs.Target.{targetOf}
+use Rattle.format.proofs.Cards.{eight}
+use Rattle.ranges.specs.Ranges.{usable, startsBy, endsBy}
+use Rattle.ranges.proofs.Stored.{length-starts, length-ends, starts-same, ends-same, card-starts, card-ends}
+use Rattle.ranges.proofs.Cards.{withCards, with-none, with-next, held-usable}
+use Rattle.ranges.proofs.address_ranges.Statement.{statement}
+use Rattle.ranges.proofs.address_ranges.Tie as tie
+
+-- how many cards there are
+abbrev held : (version : ℕ) → CardTable → ℕ
+held version cards = cond (eqb version 4) (min (cards .count) 8) 0
+
+-- the targets with the cards from `i` on
+abbrev stored : (version : ℕ) → CardTable → (i : ℕ) → ℕ → Target
+stored version cards i = withCards (targetOf version []) (drop i (take (held version cards) (cards .cards)))
+
+abbrev Inv-loop : tie.InvT-loop
+Inv-loop version starts₀ ends₀ cards i₀ starts ends i =
+    (i ≤ 8) × (i ≤ held version cards) × (starts ≡ startsBy (stored version cards i)) × (ends ≡ endsBy (stored version cards i))
+
+abbrev μ-loop : tie.MeasureT-loop
+μ-loop version starts₀ ends₀ cards i₀ starts ends i = i
+
+put-plain-requires : tie.Need-put-plain-requires Inv-loop μ-loop
+put-plain-requires c κs = (c .before .before .pre .0, c .before .before .pre .1)
+
+held-requires : tie.Need-held-requires Inv-loop μ-loop
+held-requires c κs = search needs
+
+loop-holds : tie.Need-loop-holds Inv-loop μ-loop
+loop-holds c =
+    let p = c .before in
+    let a = p .before .before .before .args in
+    let none = with-none (targetOf (a .version) []) (a .t2 .cards) (held (a .version) (a .t2)) in
+    (omega arith, omega arith, rw (c .held .ensures .0, none) (p .put-plain .ensures .0), rw (c .held .ensures .0, none) (p .put-plain .ensures .1))
+
+sub-i : tie.Need-sub-i Inv-loop μ-loop
+sub-i c = search needs
+
+mul-card : tie.Need-mul-card Inv-loop μ-loop
+mul-card c = search needs
+
+element-copy-out-card : tie.Need-element-copy-out-card Inv-loop μ-loop
+element-copy-out-card c = search needs
+
+put-card-requires : tie.Need-put-card-requires Inv-loop μ-loop
+put-card-requires c κs =
+    let l = c .before .before .before .before in
+    (rw (l .loop .inv .2) (length-starts _), rw (l .loop .inv .3) (length-ends _))
+
+loop-less : tie.Need-loop-less Inv-loop μ-loop
+loop-less c = search needs
+
+loop-again : tie.Need-loop-again Inv-loop μ-loop
+loop-again c =
+    let l = c .before .before .before .before .before in
+    let s = l .before .before .before .before .before in
+    let t = s .args .t2 in
+    let v = s .args .version in
+    let i = l .loop .i - 1 in
+    let back : i + 1 ≡ l .loop .i = omega arith in
+    let next = with-next (targetOf v []) (t .cards) (held v t) i (omega arith) (omega (arith, eight t _ (s .good .1 .0))) in
+    (omega arith, omega arith, rw (c .put-card .ensures .0, l .loop .inv .2, next, back) (card-starts (stored v t (l .loop .i)) _), rw (c .put-card .ensures .1, l .loop .inv .3, next, back) (card-ends (stored v t (l .loop .i)) _))
+
+returns : tie.Need-returns Inv-loop μ-loop
+returns c =
+    let l = c .before in
+    let s = l .before .before .before .before .before in
+    let t = s .args .t2 in
+    let all : l .loop .i ≡ 0 = omega arith in
+    let same : (n : ℕ) → stored (s .args .version) t 0 n ≡ usable (s .args .version) (cardsOf t) n = λ n. held-usable (s .args .version) t n (eight t _ (s .good .1 .0)) in
+    (rw (l .loop .inv .2, all) (starts-same _ _ same), rw (l .loop .inv .3, all) (ends-same _ _ same))
+
+pub address-ranges-spec : {M : Type 1} → statement M
+address-ranges-spec =
+    tie.close
+    (tie.spec
+    Inv-loop
+    μ-loop
+    put-plain-requires
+    held-requires
+    loop-holds
+    sub-i
+    mul-card
+    element-copy-out-card
+    put-card-requires
+    loop-less
+    loop-again
+    returns)

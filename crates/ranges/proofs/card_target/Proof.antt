@@ -1,0 +1,19 @@
+use borrow.Author.Needs.{needs}
+use native.Mathlib.Omega.{arith}
+use Rattle.ranges.specs.Ranges.{cardTarget}
+use Rattle.ranges.proofs.card_target.Statement.{statement}
+use Rattle.ranges.proofs.card_target.Tie as tie
+
+one-card-wrong-requires : tie.Need-one-card-wrong-requires
+one-card-wrong-requires c κs = search needs
+
+returns : tie.Need-returns
+unfolding cardTarget
+returns c = simp (← (c .before .one-card-wrong .ensures), c .if1 .taken)
+
+returns-2 : tie.Need-returns-2
+unfolding cardTarget
+returns-2 c = simp (← (c .before .one-card-wrong .ensures), c .if1 .left)
+
+pub card-target-spec : {M : Type 1} → statement M
+card-target-spec = tie.close (tie.spec one-card-wrong-requires returns returns-2)

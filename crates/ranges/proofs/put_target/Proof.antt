@@ -1,0 +1,53 @@
+use borrow.Author.Needs.{needs}
+use native.Mathlib.Omega.{arith}
+use Rattle.ranges.proofs.put_target.Statement.{statement}
+use Rattle.ranges.proofs.put_target.Tie as tie
+
+add-fill : tie.Need-add-fill
+add-fill c = search needs
+
+bulk-start-requires : tie.Need-bulk-start-requires
+bulk-start-requires c κs = search needs
+
+mul-starts : tie.Need-mul-starts
+mul-starts c = search needs
+
+element-write-starts : tie.Need-element-write-starts
+element-write-starts c = search needs
+
+write-top-requires : tie.Need-write-top-requires
+write-top-requires c κs = search needs
+
+mul-ends : tie.Need-mul-ends
+mul-ends c = search needs
+
+element-write-ends : tie.Need-element-write-ends
+element-write-ends c = search needs
+
+fill-top-requires : tie.Need-fill-top-requires
+fill-top-requires c κs = search needs
+
+mul-ends-2 : tie.Need-mul-ends-2
+mul-ends-2 c = search needs
+
+element-write-ends-2 : tie.Need-element-write-ends-2
+element-write-ends-2 c = search needs
+
+returns : tie.Need-returns
+returns c = (rw (c .before .before .bulk-start .ensures), rw (c .before .write-top .ensures, c .fill-top .ensures))
+
+pub put-target-spec : {M : Type 1} → statement M
+put-target-spec =
+    tie.close
+    (tie.spec
+    add-fill
+    bulk-start-requires
+    mul-starts
+    element-write-starts
+    write-top-requires
+    mul-ends
+    element-write-ends
+    fill-top-requires
+    mul-ends-2
+    element-write-ends-2
+    returns)
