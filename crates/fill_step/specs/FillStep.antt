@@ -1,0 +1,31 @@
+-- The step of a call that takes nothing but WRITEs and FILLs of the part that it goes on with.
+use Prim.Native.Nat.{ℕ, _-_}
+use mathlib.Core.Bool.{cond, not}
+use mathlib.Core.List.{List}
+use lib.Dec.{ltb}
+use Rattle.format.specs.declared.card.CardRequirement.{CardRequirement}
+use Rattle.format.specs.Bytes.{byte}
+use Rattle.current.specs.declared.Current.{Current}
+use Rattle.current.specs.declared.Step.{Step}
+use Rattle.current.specs.Step.{noStep, stepTo}
+use Rattle.fill_pace.specs.declared.FillPace.{FillPace}
+use Rattle.fill_pace.specs.Fills.{fillsPaced}
+
+-- the operations that are left of a part
+abbrev pub leftOf : Current → ℕ
+leftOf c = c .«operation_count» - c .«operation_index»
+
+-- the step to where the player then is. The last two tests never fail; they keep the subtractions exact
+abbrev pub fillStepBy : Current → (room : ℕ) → FillPace → Step
+fillStepBy c room paced =
+    cond (not (paced .taken)) noStep
+    (cond (ltb room (paced .room)) noStep
+    (cond (ltb (leftOf c) (paced .left)) noStep
+    (stepTo c (paced .left) (paced .cursor) (paced .writes) 0 (room - paced .room) (room - paced .room))))
+
+-- with room for so many records
+unfoldable pub fillStep : List ℕ → (version : ℕ) → List CardRequirement → Current → (room : ℕ) → Step
+fillStep file version cards c room =
+    cond (c .none) noStep
+    (cond (ltb 1 (byte file (c .cursor))) noStep
+    (fillStepBy c room (fillsPaced file version cards (c .limit) (leftOf c) room (c .cursor) (c .«write_index»))))

@@ -1,0 +1,57 @@
+// The step of a vsync call that takes nothing but WRITEs and FILLs of the part that it goes on with, to any target. What is not taken
+// here is for `plan` to decide, operation by operation.
+use big_endian::byte_at;
+use current::Current;
+use current::Step;
+use current::no_step;
+use current::step_to;
+use fill_pace::pace_fills;
+use format::CardTable;
+ghost use mathlib.Core.Path.{_≡_};
+ghost use Prim.Native.Nat.{_≤_};
+ghost use lib.ListN.{length};
+ghost use Rattle.format.specs.Card.{cardsOf};
+ghost use Rattle.fill_step.specs.FillStep.{fillStep};
+
+// The step of a call with room for so many records. A part whose next operation is a COPY is not taken, before any table is made.
+pub fn fill_step(file: &[u8], version: u8, cards: CardTable, current: Current, room: usize) -> Step
+    requires { ⌜ (current .limit ≤ length (now file)) × (current .«operation_index» ≤ current .«operation_count») ⌝ }
+    ensures { λ r. ⌜ r ≡ fillStep (now (file .entry)) version (cardsOf cards) current room ⌝ }
+{
+    if current.none {
+        return no_step();
+    }
+    if 1 < byte_at(file, current.cursor) {
+        return no_step();
+    }
+    let left = current.operation_count - current.operation_index;
+    let paced = pace_fills(
+        file,
+        version,
+        cards,
+        current.limit,
+        left,
+        room,
+        current.cursor,
+        current.write_index,
+    );
+    if !paced.taken {
+        return no_step();
+    }
+    if room < paced.room {
+        return no_step();
+    }
+    let count = room - paced.room;
+    if left < paced.left {
+        return no_step();
+    }
+    step_to(
+        current,
+        paced.left,
+        paced.cursor,
+        paced.writes,
+        0,
+        count,
+        count,
+    )
+}
