@@ -1,20 +1,19 @@
 -- A part's WRITEs and FILLs that are taken are the part's operations, as a call takes them.
 use Prim.Native.Nat.{ℕ, zero, suc, _+_, _-_, _≤_, _<_}
-use mathlib.Core.Path.{_≡_, refl, sym, ap, subst, _∙_}
+use mathlib.Core.Path.{_≡_, refl, sym, subst, _∙_}
 use mathlib.Core.Bool.{Bool, true, false, cond, _&&_, _||_, false≢true}
 use mathlib.Core.List.{List}
 use native.Mathlib.Omega.{arith}
-use borrow.Author.Tests.{ltb-false, leb-true, eqb-true, le-ltb, ne-eqb}
+use borrow.Author.Tests.{ltb-false, leb-true, le-ltb, ne-eqb}
 use lib.Dec.{eqb, leb, ltb}
 use Rattle.format.specs.declared.player.Progress.{Progress}
 use Rattle.format.specs.declared.player.StreamPlayer.{StreamPlayer}
 use Rattle.format.specs.declared.player.WaveSource.{WaveSource}
 use Rattle.format.specs.Card.{cardsOf}
-use Rattle.format.specs.Checked.{Checked, ok}
-use Rattle.format.specs.Operation.{Item}
-use Rattle.format.specs.Pace.{countOf, paced}
-use Rattle.format.specs.Player.{itemUsed, wavesBy, placed}
-use Rattle.format.proofs.Checks.{or-false, and-true, positive}
+use Rattle.format.specs.Checked.{ok}
+use Rattle.format.specs.Pace.{paced}
+use Rattle.format.specs.Player.{wavesBy, placed}
+use Rattle.format.proofs.Checks.{or-false, and-true}
 use Rattle.agreement.proofs.Paced.{paced-step, paced-end, paced-full}
 use Rattle.fill_pace.specs.declared.FillPace.{FillPace}
 use Rattle.fill_pace.specs.Fills.{stoppedAt, countAt, sizeAt, fillsFrom, fillsPaced}

@@ -1,6 +1,5 @@
 -- `fill_pace::pace_fills` meets its contract. Assumes nothing.
 use borrow.Author.Needs.{needs}
-use native.Mathlib.Omega.{arith}
 use borrow.Author.Tests.{le-leb, lt-leb}
 use mathlib.Core.Bool.{and-false}
 use Rattle.fill_pace.specs.Fills.{fillsPaced}
