@@ -16,14 +16,14 @@ pub address-is : (width : ℕ) (bytes : List ℕ) (place : ℕ) → byte bytes (
 unfolding be
 address-is width bytes place small low high = go (eqb width 3) refl
   where
-    go : (b : Bool) → eqb width 3 ≡ b → cond b (be 4 bytes place / 256) (be 4 bytes place) ≡ be width bytes place
+    go : (b : Bool) → eqb width 3 ≡ b → addressBy width (be 4 bytes place) ≡ be width bytes place
     go true e =
         let is : width ≡ 3 = eqb-true width 3 e in
-        let four : (be 3 bytes place * 256 + byte bytes (place + 3)) / 256 ≡ be 3 bytes place = omega arith in
-        rw is four
+        let three : (be 3 bytes place * 256 + byte bytes (place + 3)) / 256 ≡ be 3 bytes place = omega arith in
+        rw is three
     go false e =
         let is : width ≡ 4 = omega (arith, eqb-false width 3 e) in
-        rw is
+        rw is (omega arith)
 
 -- an operation in 16 bytes that has a count
 pub record Counted (width : ℕ) (bytes starts ends : List ℕ) : Type 0 where

@@ -1,5 +1,5 @@
 -- A part's operations as far as all of them are WRITEs and FILLs that a table of ranges allows.
-use Prim.Native.Nat.{ℕ, zero, suc, _+_, _*_, _-_, _/_}
+use Prim.Native.Nat.{ℕ, zero, suc, _+_, _*_, _-_, _/_, _^_}
 use mathlib.Core.Bool.{Bool, true, false, cond, _&&_, _||_}
 use mathlib.Core.List.{List}
 use lib.Dec.{eqb, leb, ltb}
@@ -21,7 +21,7 @@ countBy opcode size = cond (eqb opcode 0) 1 size
 
 -- an address by the number in four bytes, of which it has the first three or all
 abbrev pub addressBy : (width four : ℕ) → ℕ
-addressBy width four = cond (eqb width 3) (four / 256) four
+addressBy width four = four / 2 ^ (8 * (4 - width))
 
 -- how many writes the operation in a part of 16 bytes makes if it is a WRITE or a FILL that the ranges allow, else 0
 unfoldable pub fillCount : (width : ℕ) → List ℕ → (starts ends : List ℕ) → ℕ

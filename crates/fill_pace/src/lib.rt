@@ -36,14 +36,13 @@ fn stopped(taken: bool, cursor: usize, left: u32, room: usize, writes: u32) -> F
     }
 }
 
-// An address by the number in four bytes, of which it has the first three or all. Like the count it is a choice and not a branch.
+// An address by the number in four bytes, of which it has the first three or all. The shift is the same for all operations of a file.
 fn address_by(width: usize, four: u32) -> u32
+    requires { ⌜ (3 ≤ width) × (width ≤ 4) ⌝ }
     ensures { λ r. ⌜ r ≡ addressBy width four ⌝ }
 {
-    if width == 3 {
-        return four / 256;
-    }
-    four
+    let spare = 8 * (4 - width as u32);
+    four >> spare
 }
 
 // How many writes a WRITE or a FILL makes. Both numbers are there, so that this is a choice and not a branch once it is compiled.
