@@ -1,15 +1,29 @@
 -- What the count of an operation that is allowed says.
-use Prim.Native.Nat.{ℕ, _+_, _*_, _≤_}
+use Prim.Native.Nat.{ℕ, _+_, _*_, _/_, _≤_, _<_}
 use mathlib.Core.Path.{_≡_, refl}
 use mathlib.Core.Bool.{Bool, true, false, cond, true≢false}
 use mathlib.Core.List.{List}
 use native.Mathlib.Omega.{arith}
-use borrow.Author.Tests.{ltb-false, lt-ltb, le-ltb}
+use borrow.Author.Tests.{ltb-false, eqb-true, eqb-false, le-ltb}
 use lib.Dec.{eqb, ltb}
 use lib.ListN.{getD}
 use Rattle.format.specs.Bytes.{byte, be, part}
 use Rattle.quick_rules.specs.Quick.{outOfBulk}
-use Rattle.fill_pace.specs.Fills.{countBy, fillCount, countAt}
+use Rattle.fill_pace.specs.Fills.{countBy, addressBy, fillCount, countAt}
+
+-- an address is the number in its bytes
+pub address-is : (width : ℕ) (bytes : List ℕ) (place : ℕ) → byte bytes (place + 3) < 256 → 3 ≤ width → width ≤ 4 → addressBy width (be 4 bytes place) ≡ be width bytes place
+unfolding be
+address-is width bytes place small low high = go (eqb width 3) refl
+  where
+    go : (b : Bool) → eqb width 3 ≡ b → addressBy width (be 4 bytes place) ≡ be width bytes place
+    go true e =
+        let is : width ≡ 3 = eqb-true width 3 e in
+        let three : (be 3 bytes place * 256 + byte bytes (place + 3)) / 256 ≡ be 3 bytes place = omega arith in
+        rw is three
+    go false e =
+        let is : width ≡ 4 = omega (arith, eqb-false width 3 e) in
+        rw is (omega arith)
 
 -- an operation in 16 bytes that has a count
 pub record Counted (width : ℕ) (bytes starts ends : List ℕ) : Type 0 where

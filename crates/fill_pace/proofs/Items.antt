@@ -1,14 +1,13 @@
 -- What the ranges allow is an operation that writes are taken from.
-use Prim.Native.Nat.{ℕ, zero, suc, _+_, _*_, _≤_, _<_}
+use Prim.Native.Nat.{ℕ, _+_, _*_, _≤_, _<_}
 use mathlib.Core.Path.{_≡_, refl, _∙_}
-use mathlib.Core.Bool.{Bool, true, false, _&&_}
+use mathlib.Core.Bool.{Bool, true, false}
 use mathlib.Core.List.{List}
 use native.Mathlib.Nat.{add-zero}
 use native.Mathlib.Omega.{arith}
-use borrow.Author.Tests.{eqb-true, eqb-false, lt-leb, le-ltb}
-use lib.Dec.{eqb, leb}
+use borrow.Author.Tests.{eqb-true, lt-leb, le-ltb}
+use lib.Dec.{eqb}
 use lib.ListN.{getD}
-use Rattle.format.specs.declared.card.CardRequirement.{CardRequirement}
 use Rattle.format.specs.declared.operation.Operation.{Operation}
 use Rattle.format.specs.declared.player.StreamPlayer.{StreamPlayer}
 use Rattle.format.specs.declared.player.WaveSource.{WaveSource}
@@ -18,8 +17,8 @@ use Rattle.format.specs.Card.{cardsOf}
 use Rattle.format.specs.Checked.{ok}
 use Rattle.format.specs.Operation.{Item, addressWidth, sizeOf, fieldsAt, fillRules, allowed, operationAt, itemAt}
 use Rattle.format.specs.Pace.{countOf}
-use Rattle.format.specs.Player.{settingIn, slotWrong, cardUsed, poolsUsed, itemUsed, wavesBy}
-use Rattle.format.specs.Target.{slotOf, targetOf, missing}
+use Rattle.format.specs.Player.{settingIn, cardUsed, poolsUsed, itemUsed, wavesBy}
+use Rattle.format.specs.Target.{missing}
 use Rattle.format.specs.Writes.{targetNumber}
 use Rattle.format.proofs.Bytes.{byte-part, be-part}
 use Rattle.format.proofs.Checks.{passed-test, positive}
@@ -28,8 +27,8 @@ use Rattle.quick.proofs.Passed.{fill-passes}
 use Rattle.quick_rules.specs.Quick.{outOfBulk}
 use Rattle.ranges.specs.Ranges.{usable, startsOf, endsOf}
 use Rattle.ranges.proofs.Allowed.{write-start, write-end, fill-start, fill-end, usable-there, write-allows}
-use Rattle.fill_pace.specs.Fills.{countBy, fillCount, countAt, sizeAt}
-use Rattle.fill_pace.proofs.Counts.{Counted, counted, count-within, count-whole}
+use Rattle.fill_pace.specs.Fills.{countBy, countAt, sizeAt}
+use Rattle.fill_pace.proofs.Counts.{counted, count-within, count-whole}
 
 -- an operation that writes are taken from, with so many writes; it leaves the wave sources as they are
 pub record Used (state : StreamPlayer) (file : List ℕ) (limit at count : ℕ) : Type 0 where

@@ -1,5 +1,5 @@
 -- A part's operations as far as all of them are WRITEs and FILLs that a table of ranges allows.
-use Prim.Native.Nat.{ℕ, zero, suc, _+_, _*_, _-_}
+use Prim.Native.Nat.{ℕ, zero, suc, _+_, _*_, _-_, _/_, _^_}
 use mathlib.Core.Bool.{Bool, true, false, cond, _&&_, _||_}
 use mathlib.Core.List.{List}
 use lib.Dec.{eqb, leb, ltb}
@@ -11,16 +11,17 @@ use Rattle.quick_rules.specs.Quick.{outOfBulk}
 use Rattle.ranges.specs.Ranges.{startsOf, endsOf}
 use Rattle.fill_pace.specs.declared.FillPace.{FillPace}
 
--- what is answered
-abbrev pub notTaken : FillPace
-notTaken = record { taken = false; cursor = 0; left = 0; room = 0; writes = 0 }
-
-abbrev pub takenTo : (cursor left room writes : ℕ) → FillPace
-takenTo cursor left room writes = record { taken = true; cursor = cursor; left = left; room = room; writes = writes }
+-- where the walk stops
+abbrev pub stoppedAt : (taken : Bool) → (cursor left room writes : ℕ) → FillPace
+stoppedAt taken cursor left room writes = record { taken = taken; cursor = cursor; left = left; room = room; writes = writes }
 
 -- how many writes a WRITE or a FILL makes
 abbrev pub countBy : (opcode size : ℕ) → ℕ
 countBy opcode size = cond (eqb opcode 0) 1 size
+
+-- an address by the number in four bytes, of which it has the first three or all
+abbrev pub addressBy : (width four : ℕ) → ℕ
+addressBy width four = four / 2 ^ (8 * (4 - width))
 
 -- how many writes the operation in a part of 16 bytes makes if it is a WRITE or a FILL that the ranges allow, else 0
 unfoldable pub fillCount : (width : ℕ) → List ℕ → (starts ends : List ℕ) → ℕ
@@ -41,15 +42,15 @@ sizeAt file width at = 3 + width + 4 * byte file at
 
 -- so many operations from a cursor, for as many writes as there is room for; of the first one so many writes are made
 unfoldable pub fillsFrom : List ℕ → (width : ℕ) → (starts ends : List ℕ) → (limit left room cursor writes : ℕ) → FillPace
-fillsFrom file width starts ends limit zero room cursor writes = takenTo cursor 0 room writes
+fillsFrom file width starts ends limit zero room cursor writes = stoppedAt true cursor 0 room writes
 fillsFrom file width starts ends limit (suc left) room cursor writes =
     let count = countAt file width starts ends limit cursor in
-    cond (eqb room 0) (takenTo cursor (suc left) 0 writes)
-    (cond (eqb count 0 || ltb count writes) notTaken
-    (cond (ltb room (count - writes)) (takenTo cursor (suc left) 0 (writes + room))
+    cond (eqb room 0) (stoppedAt true cursor (suc left) room writes)
+    (cond (eqb count 0 || ltb count writes) (stoppedAt false cursor (suc left) room writes)
+    (cond (ltb room (count - writes)) (stoppedAt true cursor (suc left) 0 (writes + room))
     (fillsFrom file width starts ends limit left (room - (count - writes)) (cursor + sizeAt file width cursor) 0)))
 
 -- with the ranges of a version and its cards. Version 1 has records, and is not taken
 unfoldable pub fillsPaced : List ℕ → (version : ℕ) → List CardRequirement → (limit left room cursor writes : ℕ) → FillPace
 fillsPaced file version cards limit left room cursor writes =
-    cond (leb 2 version && leb version 4) (fillsFrom file (addressWidth version) (startsOf version cards) (endsOf version cards) limit left room cursor writes) notTaken
+    cond (leb 2 version && leb version 4) (fillsFrom file (addressWidth version) (startsOf version cards) (endsOf version cards) limit left room cursor writes) (stoppedAt false cursor left room writes)

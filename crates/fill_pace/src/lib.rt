@@ -8,15 +8,14 @@ use quick_rules::out_of_bulk;
 use ranges::RANGES;
 use ranges::address_ranges;
 use widths::address_width;
-use widths::read_address;
 ghost use mathlib.Core.Path.{_≡_};
 ghost use Prim.Native.Nat.{_≤_};
 ghost use lib.ListN.{length};
 ghost use Rattle.format.specs.Card.{cardsOf};
-ghost use Rattle.fill_pace.specs.Fills.{countBy, fillCount, notTaken, takenTo, fillsFrom, fillsPaced};
+ghost use Rattle.fill_pace.specs.Fills.{countBy, addressBy, fillCount, stoppedAt, fillsFrom, fillsPaced};
 
-// Where the player is then: the cursor, the operations and the room that are left, and the writes made of the operation at the cursor.
-// `taken` is false where an operation is no WRITE or FILL, or is not allowed.
+// Where the player stops: the cursor, the operations and the room that are left, and the writes made of the operation at the cursor.
+// `taken` is false where it stops at an operation that is no WRITE or FILL, or that is not allowed.
 pub struct FillPace {
     pub taken: bool,
     pub cursor: usize,
@@ -25,28 +24,25 @@ pub struct FillPace {
     pub writes: u32,
 }
 
-fn not_taken() -> FillPace
-    ensures { λ r. ⌜ r ≡ notTaken ⌝ }
+fn stopped(taken: bool, cursor: usize, left: u32, room: usize, writes: u32) -> FillPace
+    ensures { λ r. ⌜ r ≡ stoppedAt taken cursor left room writes ⌝ }
 {
     FillPace {
-        taken: false,
-        cursor: 0,
-        left: 0,
-        room: 0,
-        writes: 0,
-    }
-}
-
-fn taken_to(cursor: usize, left: u32, room: usize, writes: u32) -> FillPace
-    ensures { λ r. ⌜ r ≡ takenTo cursor left room writes ⌝ }
-{
-    FillPace {
-        taken: true,
+        taken: taken,
         cursor: cursor,
         left: left,
         room: room,
         writes: writes,
     }
+}
+
+// An address by the number in four bytes, of which it has the first three or all. The shift is the same for all operations of a file.
+fn address_by(width: usize, four: u32) -> u32
+    requires { ⌜ (3 ≤ width) × (width ≤ 4) ⌝ }
+    ensures { λ r. ⌜ r ≡ addressBy width four ⌝ }
+{
+    let spare = 8 * (4 - width as u32);
+    four >> spare
 }
 
 // How many writes a WRITE or a FILL makes. Both numbers are there, so that this is a choice and not a branch once it is compiled.
@@ -72,7 +68,7 @@ fn fill_count(bytes: &[u8], width: usize, starts: &[u32; RANGES], ends: &[u64; R
     if 15 < target {
         return 0;
     }
-    let address = read_address(bytes, width, 2);
+    let address = address_by(width, read_u32(bytes, 2));
     let count = count_by(opcode, read_u32(bytes, 2 + width));
     let k = 16 * opcode as usize + target as usize;
     if out_of_bulk(address, count, starts[k], ends[k]) {
@@ -102,32 +98,32 @@ fn fills_from(
     let mut done = writes;
     while 0 < others {
         if free == 0 {
-            return taken_to(at, others, 0, done);
+            return stopped(true, at, others, free, done);
         }
         if limit < 16 {
-            return not_taken();
+            return stopped(false, at, others, free, done);
         }
         if limit - 16 < at {
-            return not_taken();
+            return stopped(false, at, others, free, done);
         }
         let bytes = window(file, at);
         let count = fill_count(bytes, width, starts, ends);
         if count == 0 {
-            return not_taken();
+            return stopped(false, at, others, free, done);
         }
         if count < done {
-            return not_taken();
+            return stopped(false, at, others, free, done);
         }
         let rest = count - done;
         if free < rest as usize {
-            return taken_to(at, others, 0, done + free as u32);
+            return stopped(true, at, others, 0, done + free as u32);
         }
         free -= rest as usize;
         at += 3 + width + 4 * byte_at(bytes, 0) as usize;
         others -= 1;
         done = 0;
     }
-    taken_to(at, 0, free, done)
+    stopped(true, at, others, free, done)
 }
 
 // The operations that are left of a part, for as many writes as there is room for.
@@ -145,10 +141,10 @@ pub fn pace_fills(
     ensures { λ r. ⌜ r ≡ fillsPaced (now (file .entry)) version (cardsOf cards) limit left room cursor writes ⌝ }
 {
     if version < 2 {
-        return not_taken();
+        return stopped(false, cursor, left, room, writes);
     }
     if 4 < version {
-        return not_taken();
+        return stopped(false, cursor, left, room, writes);
     }
     let mut starts: [u32; RANGES] = [0; RANGES];
     let mut ends: [u64; RANGES] = [0; RANGES];

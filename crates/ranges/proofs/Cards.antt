@@ -1,18 +1,18 @@
 -- The targets of a version's cards, stored from the last to the first, are those that the numbers stand for.
-use Prim.Native.Nat.{ℕ, zero, suc, _+_, _-_, _≤_, _<_, min}
-use mathlib.Core.Path.{_≡_, refl, sym, _∙_}
-use mathlib.Core.Bool.{Bool, true, false, cond, _&&_, and-false}
+use Prim.Native.Nat.{ℕ, _+_, _-_, _≤_, _<_, min}
+use mathlib.Core.Path.{_≡_, refl, _∙_}
+use mathlib.Core.Bool.{Bool, true, false, cond, _&&_}
 use mathlib.Core.List.{List, [], _∷_}
 use native.Mathlib.Numerals.{add-one}
 use native.Mathlib.Omega.{arith}
-use borrow.Author.Tests.{ltb-true, ltb-false, leb-true, leb-false, eqb-true, eqb-false, eq-eqb, ne-eqb, le-ltb, le-leb, lt-ltb, lt-leb}
+use borrow.Author.Tests.{ltb-false, leb-true, leb-false, eqb-true, eqb-false, eq-eqb, ne-eqb, le-ltb}
 use lib.Dec.{eqb, leb, ltb}
 use lib.ListN.{length, getD, take, drop, length-take, drop-of-length-le}
 use lib.Seq.{drop-cons, getD-take}
 use Rattle.format.specs.declared.card.CardRequirement.{CardRequirement}
 use Rattle.format.specs.declared.card.CardTable.{CardTable}
 use Rattle.targets.specs.declared.Target.{Target}
-use Rattle.targets.specs.declared.Target.the-variants.{Core, Pcm, Bank, Slot, Si22, Missing}
+use Rattle.targets.specs.declared.Target.the-variants.{Slot, Missing}
 use Rattle.format.specs.Card.{cardsOf, oneCardWrong}
 use Rattle.format.specs.Player.{slotWrong}
 use Rattle.format.specs.Target.{slotOf, slotTarget, targetOf}

@@ -1,5 +1,4 @@
-use borrow.Author.Needs.{needs}
-use native.Mathlib.Omega.{arith}
+-- `card_rules::padding` meets its contract. Assumes nothing.
 use borrow.Author.Tests.{lt-ltb, le-ltb}
 use Rattle.card_rules.proofs.padding.Statement.{statement}
 use Rattle.card_rules.proofs.padding.Tie as tie

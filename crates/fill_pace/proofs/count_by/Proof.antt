@@ -1,5 +1,4 @@
-use borrow.Author.Needs.{needs}
-use native.Mathlib.Omega.{arith}
+-- `fill_pace::count_by` meets its contract. Assumes nothing.
 use borrow.Author.Tests.{eq-eqb, ne-eqb}
 use Rattle.fill_pace.proofs.count_by.Statement.{statement}
 use Rattle.fill_pace.proofs.count_by.Tie as tie

@@ -1,9 +1,20 @@
+-- `fill_pace::fill_count` meets its contract. Assumes nothing.
 use borrow.Author.Needs.{needs}
 use native.Mathlib.Omega.{arith}
 use borrow.Author.Tests.{lt-ltb, le-ltb}
+use mathlib.Core.Path.{_≡_}
+use Rattle.format.specs.Bytes.{be}
 use Rattle.fill_pace.specs.Fills.{fillCount}
+use Rattle.fill_pace.proofs.Counts.{address-is}
 use Rattle.fill_pace.proofs.fill_count.Statement.{statement}
 use Rattle.fill_pace.proofs.fill_count.Tie as tie
+
+-- the address
+addressed : (b : tie.After-address-by) → b .address-by .result ≡ be (b .before .before .before .before .before .before .before .args .width) (b .before .before .before .before .before .before .before .args .bytes .now) 2
+addressed b =
+    let k = b .before .before .before .before .before .before in
+    let a = k .before .args in
+    rw (b .address-by .ensures, b .before .read-u32 .ensures) (address-is (a .width) (a .bytes .now) 2 (omega (arith, k .shared-slice-known .given 5)) (omega arith) (omega arith))
 
 byte-at-requires : tie.Need-byte-at-requires
 byte-at-requires c κs = search needs
@@ -19,14 +30,17 @@ returns-2 : tie.Need-returns-2
 unfolding fillCount
 returns-2 c = simp (← (c .before .before .before .byte-at .ensures), ← (c .before .before .byte-at2 .ensures), le-ltb _ _ (c .before .if1 .left), lt-ltb _ _ (c .if2 .taken))
 
-read-address-requires : tie.Need-read-address-requires
-read-address-requires c κs = search needs
+read-u32-requires : tie.Need-read-u32-requires
+read-u32-requires c κs = search needs
+
+address-by-requires : tie.Need-address-by-requires
+address-by-requires c κs = search needs
 
 add-read-u32 : tie.Need-add-read-u32
 add-read-u32 c = search needs
 
-read-u32-requires : tie.Need-read-u32-requires
-read-u32-requires c κs = search needs
+read-u32-requires-2 : tie.Need-read-u32-requires-2
+read-u32-requires-2 c κs = search needs
 
 count-by-requires : tie.Need-count-by-requires
 count-by-requires c κs = search needs
@@ -64,10 +78,7 @@ returns-3 c =
     let o = c .before in
     let n = o .before .before .before in
     let u = n .before in
-    let a = u .before in
-    let e = a .before in
-    let b = e .before .before in
-    simp (← (b .before .byte-at .ensures), ← (b .byte-at2 .ensures), le-ltb _ _ (e .before .if1 .left), le-ltb _ _ (e .if2 .left), ← (a .read-address .ensures), ← (u .read-u32 .ensures), ← (n .count-by .ensures), ← (o .out-of-bulk .ensures), c .if3 .taken)
+    simp (← (addressed (u .before)), ← (u .before .before .before .before .before .before .byte-at .ensures), ← (u .before .before .before .before .before .byte-at2 .ensures), le-ltb _ _ (u .before .before .before .before .if1 .left), le-ltb _ _ (u .before .before .before .if2 .left), ← (u .read-u322 .ensures), ← (n .count-by .ensures), ← (o .out-of-bulk .ensures), c .if3 .taken)
 
 returns-4 : tie.Need-returns-4
 unfolding fillCount
@@ -75,10 +86,7 @@ returns-4 c =
     let o = c .before in
     let n = o .before .before .before in
     let u = n .before in
-    let a = u .before in
-    let e = a .before in
-    let b = e .before .before in
-    simp (← (b .before .byte-at .ensures), ← (b .byte-at2 .ensures), le-ltb _ _ (e .before .if1 .left), le-ltb _ _ (e .if2 .left), ← (a .read-address .ensures), ← (u .read-u32 .ensures), ← (n .count-by .ensures), ← (o .out-of-bulk .ensures), c .if3 .left)
+    simp (← (addressed (u .before)), ← (u .before .before .before .before .before .before .byte-at .ensures), ← (u .before .before .before .before .before .byte-at2 .ensures), le-ltb _ _ (u .before .before .before .before .if1 .left), le-ltb _ _ (u .before .before .before .if2 .left), ← (u .read-u322 .ensures), ← (n .count-by .ensures), ← (o .out-of-bulk .ensures), c .if3 .left)
 
 pub fill-count-spec : {M : Type 1} → statement M
 fill-count-spec =
@@ -88,9 +96,10 @@ fill-count-spec =
     byte-at-requires-2
     returns
     returns-2
-    read-address-requires
-    add-read-u32
     read-u32-requires
+    address-by-requires
+    add-read-u32
+    read-u32-requires-2
     count-by-requires
     cast-k
     mul-k

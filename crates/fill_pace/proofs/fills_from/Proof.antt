@@ -47,34 +47,34 @@ low e =
 loop-holds : tie.Need-loop-holds Inv-loop μ-loop
 loop-holds c = refl
 
-taken-to-requires : tie.Need-taken-to-requires Inv-loop μ-loop
-taken-to-requires c κs = search needs
+stopped-requires : tie.Need-stopped-requires Inv-loop μ-loop
+stopped-requires c κs = search needs
 
 returns : tie.Need-returns Inv-loop μ-loop
 returns c =
     let l = c .before .before .before in
     let a = l .before .before .args in
-    rw (l .loop .inv, c .before .if1 .taken, fills-full (a .file .now) (a .width) (a .starts .now) (a .ends .now) (a .limit) (l .loop .others)) (c .taken-to .ensures)
+    rw (c .stopped .ensures, l .loop .inv, c .before .if1 .taken, fills-full (a .file .now) (a .width) (a .starts .now) (a .ends .now) (a .limit) (l .loop .others))
 
-not-taken-requires : tie.Need-not-taken-requires Inv-loop μ-loop
-not-taken-requires c κs = search needs
+stopped-requires-2 : tie.Need-stopped-requires-2 Inv-loop μ-loop
+stopped-requires-2 c κs = search needs
 
 returns-2 : tie.Need-returns-2 Inv-loop μ-loop
 returns-2 c =
     let l = c .before .before .before .before in
     let a = l .before .before .args in
     let none : (eqb (countOn (l .before) (l .loop .at)) 0 || ltb (countOn (l .before) (l .loop .at)) (l .loop .done)) ≡ true = rw (count-past (a .file .now) (a .width) (a .starts .now) (a .ends .now) (a .limit) (l .loop .at) (lt-ltb (a .limit) (l .loop .at + 16) (omega arith))) in
-    rw (l .loop .inv, fills-none (a .file .now) (a .width) (a .starts .now) (a .ends .now) (a .limit) (l .loop .others) (l .loop .free) (l .loop .at) (l .loop .done) (omega arith) (omega arith) none) (c .not-taken .ensures)
+    rw (l .loop .inv, fills-none (a .file .now) (a .width) (a .starts .now) (a .ends .now) (a .limit) (l .loop .others) (l .loop .free) (l .loop .at) (l .loop .done) (omega arith) (omega arith) none) (c .stopped2 .ensures)
 
-not-taken-requires-2 : tie.Need-not-taken-requires-2 Inv-loop μ-loop
-not-taken-requires-2 c κs = search needs
+stopped-requires-3 : tie.Need-stopped-requires-3 Inv-loop μ-loop
+stopped-requires-3 c κs = search needs
 
 returns-3 : tie.Need-returns-3 Inv-loop μ-loop
 returns-3 c =
     let l = c .before .before .before .before .before in
     let a = l .before .before .args in
     let none : (eqb (countOn (l .before) (l .loop .at)) 0 || ltb (countOn (l .before) (l .loop .at)) (l .loop .done)) ≡ true = rw (count-past (a .file .now) (a .width) (a .starts .now) (a .ends .now) (a .limit) (l .loop .at) (lt-ltb (a .limit) (l .loop .at + 16) (omega arith))) in
-    rw (l .loop .inv, fills-none (a .file .now) (a .width) (a .starts .now) (a .ends .now) (a .limit) (l .loop .others) (l .loop .free) (l .loop .at) (l .loop .done) (omega arith) (omega arith) none) (c .not-taken2 .ensures)
+    rw (l .loop .inv, fills-none (a .file .now) (a .width) (a .starts .now) (a .ends .now) (a .limit) (l .loop .others) (l .loop .free) (l .loop .at) (l .loop .done) (omega arith) (omega arith) none) (c .stopped3 .ensures)
 
 window-requires : tie.Need-window-requires Inv-loop μ-loop
 window-requires c κs = search needs
@@ -82,8 +82,8 @@ window-requires c κs = search needs
 fill-count-requires : tie.Need-fill-count-requires Inv-loop μ-loop
 fill-count-requires c κs = search needs
 
-not-taken-requires-3 : tie.Need-not-taken-requires-3 Inv-loop μ-loop
-not-taken-requires-3 c κs = search needs
+stopped-requires-4 : tie.Need-stopped-requires-4 Inv-loop μ-loop
+stopped-requires-4 c κs = search needs
 
 returns-4 : tie.Need-returns-4 Inv-loop μ-loop
 returns-4 c =
@@ -91,10 +91,10 @@ returns-4 c =
     let a = l .before .before .args in
     let q = c .before .before in
     let none : (eqb (countOn (l .before) (l .loop .at)) 0 || ltb (countOn (l .before) (l .loop .at)) (l .loop .done)) ≡ true = rw (said q, eq-eqb _ _ (c .before .if4 .taken)) in
-    rw (l .loop .inv, fills-none (a .file .now) (a .width) (a .starts .now) (a .ends .now) (a .limit) (l .loop .others) (l .loop .free) (l .loop .at) (l .loop .done) (omega arith) (omega arith) none) (c .not-taken3 .ensures)
+    rw (l .loop .inv, fills-none (a .file .now) (a .width) (a .starts .now) (a .ends .now) (a .limit) (l .loop .others) (l .loop .free) (l .loop .at) (l .loop .done) (omega arith) (omega arith) none) (c .stopped4 .ensures)
 
-not-taken-requires-4 : tie.Need-not-taken-requires-4 Inv-loop μ-loop
-not-taken-requires-4 c κs = search needs
+stopped-requires-5 : tie.Need-stopped-requires-5 Inv-loop μ-loop
+stopped-requires-5 c κs = search needs
 
 returns-5 : tie.Need-returns-5 Inv-loop μ-loop
 returns-5 c =
@@ -102,19 +102,19 @@ returns-5 c =
     let a = l .before .before .args in
     let q = c .before .before .before in
     let none : (eqb (countOn (l .before) (l .loop .at)) 0 || ltb (countOn (l .before) (l .loop .at)) (l .loop .done)) ≡ true = rw (said q, lt-ltb _ _ (c .before .if5 .taken), or-true) in
-    rw (l .loop .inv, fills-none (a .file .now) (a .width) (a .starts .now) (a .ends .now) (a .limit) (l .loop .others) (l .loop .free) (l .loop .at) (l .loop .done) (omega arith) (omega arith) none) (c .not-taken4 .ensures)
+    rw (l .loop .inv, fills-none (a .file .now) (a .width) (a .starts .now) (a .ends .now) (a .limit) (l .loop .others) (l .loop .free) (l .loop .at) (l .loop .done) (omega arith) (omega arith) none) (c .stopped5 .ensures)
 
 cast-if6 : tie.Need-cast-if6 Inv-loop μ-loop
 cast-if6 c = search needs
 
-cast-taken-to : tie.Need-cast-taken-to Inv-loop μ-loop
-cast-taken-to c = search needs
+cast-stopped : tie.Need-cast-stopped Inv-loop μ-loop
+cast-stopped c = search needs
 
-add-taken-to : tie.Need-add-taken-to Inv-loop μ-loop
-add-taken-to c = search needs
+add-stopped : tie.Need-add-stopped Inv-loop μ-loop
+add-stopped c = search needs
 
-taken-to-requires-2 : tie.Need-taken-to-requires-2 Inv-loop μ-loop
-taken-to-requires-2 c κs = search needs
+stopped-requires-6 : tie.Need-stopped-requires-6 Inv-loop μ-loop
+stopped-requires-6 c κs = search needs
 
 returns-6 : tie.Need-returns-6 Inv-loop μ-loop
 returns-6 c =
@@ -124,7 +124,7 @@ returns-6 c =
     let a = l .before .before .args in
     let some : (eqb (countOn (l .before) (l .loop .at)) 0 || ltb (countOn (l .before) (l .loop .at)) (l .loop .done)) ≡ false = rw (said q, ne-eqb _ _ (f .before .if4 .left), le-ltb _ _ (f .if5 .left)) in
     let step = fills-step (a .file .now) (a .width) (a .starts .now) (a .ends .now) (a .limit) (l .loop .others) (l .loop .free) (l .loop .at) (l .loop .done) (omega arith) (omega arith) some in
-    rw (l .loop .inv, step, said q, lt-ltb _ _ (c .before .if6 .taken)) (c .taken-to2 .ensures)
+    rw (l .loop .inv, step, said q, lt-ltb _ _ (c .before .if6 .taken)) (c .stopped6 .ensures)
 
 cast-free : tie.Need-cast-free Inv-loop μ-loop
 cast-free c = search needs
@@ -168,15 +168,15 @@ loop-again c =
     let step = fills-step (a .file .now) (a .width) (a .starts .now) (a .ends .now) (a .limit) (l .loop .others) (l .loop .free) (l .loop .at) (l .loop .done) (omega arith) (omega arith) some in
     rw (l .loop .inv, step, said q, le-ltb _ _ (c .before .if6 .left), opcode)
 
-taken-to-requires-3 : tie.Need-taken-to-requires-3 Inv-loop μ-loop
-taken-to-requires-3 c κs = search needs
+stopped-requires-7 : tie.Need-stopped-requires-7 Inv-loop μ-loop
+stopped-requires-7 c κs = search needs
 
 returns-7 : tie.Need-returns-7 Inv-loop μ-loop
 returns-7 c =
     let l = c .before .before in
     let a = l .before .before .args in
     let all : l .loop .others ≡ 0 = omega arith in
-    rw (l .loop .inv, all, fills-end (a .file .now) (a .width) (a .starts .now) (a .ends .now) (a .limit)) (c .taken-to3 .ensures)
+    rw (c .stopped7 .ensures, l .loop .inv, all, fills-end (a .file .now) (a .width) (a .starts .now) (a .ends .now) (a .limit))
 
 pub fills-from-spec : {M : Type 1} → statement M
 fills-from-spec =
@@ -185,22 +185,22 @@ fills-from-spec =
     Inv-loop
     μ-loop
     loop-holds
-    taken-to-requires
+    stopped-requires
     returns
-    not-taken-requires
+    stopped-requires-2
     returns-2
-    not-taken-requires-2
+    stopped-requires-3
     returns-3
     window-requires
     fill-count-requires
-    not-taken-requires-3
+    stopped-requires-4
     returns-4
-    not-taken-requires-4
+    stopped-requires-5
     returns-5
     cast-if6
-    cast-taken-to
-    add-taken-to
-    taken-to-requires-2
+    cast-stopped
+    add-stopped
+    stopped-requires-6
     returns-6
     cast-free
     sub-free
@@ -213,5 +213,5 @@ fills-from-spec =
     sub-others
     loop-less
     loop-again
-    taken-to-requires-3
+    stopped-requires-7
     returns-7)

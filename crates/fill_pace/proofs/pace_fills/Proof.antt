@@ -1,25 +1,24 @@
 -- `fill_pace::pace_fills` meets its contract. Assumes nothing.
 use borrow.Author.Needs.{needs}
-use native.Mathlib.Omega.{arith}
 use borrow.Author.Tests.{le-leb, lt-leb}
 use mathlib.Core.Bool.{and-false}
 use Rattle.fill_pace.specs.Fills.{fillsPaced}
 use Rattle.fill_pace.proofs.pace_fills.Statement.{statement}
 use Rattle.fill_pace.proofs.pace_fills.Tie as tie
 
-not-taken-requires : tie.Need-not-taken-requires
-not-taken-requires c κs = search needs
+stopped-requires : tie.Need-stopped-requires
+stopped-requires c κs = search needs
 
 returns : tie.Need-returns
 unfolding fillsPaced
-returns c = rw (lt-leb 2 (c .before .before .before .args .version) (c .before .if1 .taken)) (c .not-taken .ensures)
+returns c = rw (lt-leb 2 (c .before .before .before .args .version) (c .before .if1 .taken)) (c .stopped .ensures)
 
-not-taken-requires-2 : tie.Need-not-taken-requires-2
-not-taken-requires-2 c κs = search needs
+stopped-requires-2 : tie.Need-stopped-requires-2
+stopped-requires-2 c κs = search needs
 
 returns-2 : tie.Need-returns-2
 unfolding fillsPaced
-returns-2 c = rw (lt-leb (c .before .before .before .before .args .version) 4 (c .before .if2 .taken), and-false) (c .not-taken2 .ensures)
+returns-2 c = rw (lt-leb (c .before .before .before .before .args .version) 4 (c .before .if2 .taken), and-false) (c .stopped2 .ensures)
 
 address-ranges-requires : tie.Need-address-ranges-requires
 address-ranges-requires c κs = search needs
@@ -43,9 +42,9 @@ pub pace-fills-spec : {M : Type 1} → statement M
 pace-fills-spec =
     tie.close
     (tie.spec
-    not-taken-requires
+    stopped-requires
     returns
-    not-taken-requires-2
+    stopped-requires-2
     returns-2
     address-ranges-requires
     address-width-requires

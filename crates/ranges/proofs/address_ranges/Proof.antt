@@ -1,3 +1,4 @@
+-- `ranges::address_ranges` meets its contract. Assumes nothing.
 use borrow.Author.Needs.{needs}
 use native.Mathlib.Omega.{arith}
 use Prim.Native.Nat.{ℕ, _+_, _-_, _≤_, min}
@@ -5,7 +6,7 @@ use mathlib.Core.Path.{_≡_}
 use mathlib.Core.Bool.{cond}
 use mathlib.Core.List.{[]}
 use lib.Dec.{eqb}
-use lib.ListN.{length, take, drop}
+use lib.ListN.{take, drop}
 use Rattle.format.specs.declared.card.CardTable.{CardTable}
 use Rattle.targets.specs.declared.Target.{Target}
 use Rattle.format.specs.Card.{cardsOf}

@@ -1,5 +1,5 @@
+-- `ranges::card_target` meets its contract. Assumes nothing.
 use borrow.Author.Needs.{needs}
-use native.Mathlib.Omega.{arith}
 use Rattle.ranges.specs.Ranges.{cardTarget}
 use Rattle.ranges.proofs.card_target.Statement.{statement}
 use Rattle.ranges.proofs.card_target.Tie as tie

@@ -1,5 +1,5 @@
+-- `ranges::fill_top` meets its contract. Assumes nothing.
 use borrow.Author.Needs.{needs}
-use native.Mathlib.Omega.{arith}
 use Rattle.limit_tables.specs.Limits.{bulkEnd}
 use Rattle.ranges.proofs.fill_top.Statement.{statement}
 use Rattle.ranges.proofs.fill_top.Tie as tie

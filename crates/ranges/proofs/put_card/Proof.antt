@@ -1,5 +1,5 @@
+-- `ranges::put_card` meets its contract. Assumes nothing.
 use borrow.Author.Needs.{needs}
-use native.Mathlib.Omega.{arith}
 use borrow.Author.Tests.{lt-ltb, le-ltb}
 use Rattle.ranges.proofs.put_card.Statement.{statement}
 use Rattle.ranges.proofs.put_card.Tie as tie

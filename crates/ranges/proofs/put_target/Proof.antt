@@ -1,5 +1,5 @@
+-- `ranges::put_target` meets its contract. Assumes nothing.
 use borrow.Author.Needs.{needs}
-use native.Mathlib.Omega.{arith}
 use Rattle.ranges.proofs.put_target.Statement.{statement}
 use Rattle.ranges.proofs.put_target.Tie as tie
 

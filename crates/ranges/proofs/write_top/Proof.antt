@@ -1,5 +1,5 @@
+-- `ranges::write_top` meets its contract. Assumes nothing.
 use borrow.Author.Needs.{needs}
-use native.Mathlib.Omega.{arith}
 use Rattle.ranges.specs.Ranges.{writeTop}
 use Rattle.ranges.proofs.write_top.Statement.{statement}
 use Rattle.ranges.proofs.write_top.Tie as tie
