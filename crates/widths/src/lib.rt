@@ -1,4 +1,5 @@
 // The width of addresses, by the version, and the sizes of operations, by the width.
+use big_endian::read_u24;
 use big_endian::read_u32;
 ghost use mathlib.Core.Path.{_≡_};
 ghost use Prim.Native.Nat.{_+_, _≤_};
@@ -27,14 +28,13 @@ pub fn operation_size(width: usize, opcode: usize) -> usize
     SIZES[row][opcode]
 }
 
-// An address of 3 or 4 bytes. Both come from the same four bytes, so that this is a choice and not a branch once it is compiled.
+// An address of 3 or 4 bytes.
 pub fn read_address(file: &[u8], width: usize, at: usize) -> u32
     requires { ⌜ (3 ≤ width) × (width ≤ 4) ⌝ }
     ensures { λ r. ⌜ r ≡ be width (now (file .entry)) at ⌝ }
 {
-    let word = read_u32(file, at);
     if width == 3 {
-        return word / 256;
+        return read_u24(file, at);
     }
-    word
+    read_u32(file, at)
 }
