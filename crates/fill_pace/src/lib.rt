@@ -1,5 +1,5 @@
 // The WRITEs and FILLs that are left of a part, as far as there is room for their writes. Each is compared with a table of ranges,
-// without a branch on its opcode: in real files the opcode cannot be foreseen.
+// without a branch on its opcode, because a file's opcodes need not follow any pattern.
 use big_endian::byte_at;
 use big_endian::read_u32;
 use big_endian::window;

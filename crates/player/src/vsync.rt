@@ -36,7 +36,7 @@ fn planned_vsync(state: &mut StreamPlayer, file: &[u8], run: &mut [WriteRecord])
     }
 }
 
-// The call of a vsync that has writes. One that takes nothing but plain WRITEs reads and changes a few numbers of the state.
+// Any call that is not an empty frame's. One that takes nothing but plain WRITEs reads and changes a few numbers of the state.
 fn busy_vsync(state: &mut StreamPlayer, file: &[u8], run: &mut [WriteRecord]) -> Vsync
     ensures { λ r. ⌜ (r ≡ vsyncOf (call (now (state .entry)) (now (file .entry)) (length (now (run .entry)))))
         × (now (state .exit) ≡ stateAfter (now (state .entry)) (call (now (state .entry)) (now (file .entry)) (length (now (run .entry)))))
