@@ -11,14 +11,11 @@ use Rattle.format.specs.declared.operation.WriteRecord.{WriteRecord}
 use Rattle.format.specs.declared.player.Part.the-variants.{Opening}
 use Rattle.format.specs.declared.player.Progress.{Progress}
 use Rattle.format.specs.declared.player.StreamPlayer.{StreamPlayer}
-use Rattle.format.specs.Checked.{Checked, ok, refused, mapped}
-use Rattle.format.specs.Pace.{paced, planOf, planned}
-use Rattle.format.specs.Player.{Gathered, placed, gathered, Played, playFrame, playOpening, as25, call}
+use Rattle.format.specs.Checked.{ok}
+use Rattle.format.specs.Player.{placed, gathered, Played, playFrame, playOpening, as25, call}
 use Rattle.format.specs.State.{partNumber, moved}
 use Rattle.format.specs.Stream.{openingLimit}
-use Rattle.format.proofs.Checks.{refused-not-ok, ok-is, cond-true, cond-false}
-use Rattle.agreement.proofs.Paced.{paced-is, room-taken}
-use Rattle.agreement.proofs.Planned.{planned-is}
+use Rattle.format.proofs.Checks.{cond-true, cond-false}
 use Rattle.current.specs.declared.Current.{Current}
 use Rattle.current.specs.declared.Step.{Step}
 use Rattle.current.specs.Current.{currentOf, playing}
@@ -45,6 +42,7 @@ step-taken c left cursor writes plain others count step e taken = go (eqb left 0
 -- what it says of its writes
 pub record Writes (c : Current) (plain others count : ℕ) (step : Step) : Type 0 where
   pub from : step .from ≡ c .cursor
+  pub begun : step .made ≡ c .«write_index»
   pub plainly : step .plain ≡ plain
   pub otherwise : step .others ≡ others
   pub counted : step .count ≡ count
@@ -53,8 +51,8 @@ pub taken-writes : (c : Current) (left cursor writes plain others count : ℕ) (
 taken-writes c left cursor writes plain others count step e taken = go (step-taken c left cursor writes plain others count step e taken)
   where
     go : Taken c left cursor writes plain others count step → Writes c plain others count step
-    go (within more h) = rw h (record { from = refl; plainly = refl; otherwise = refl; counted = refl })
-    go (to-end over part h) = rw h (record { from = refl; plainly = refl; otherwise = refl; counted = refl })
+    go (within more h) = rw h (record { from = refl; begun = refl; plainly = refl; otherwise = refl; counted = refl })
+    go (to-end over part h) = rw h (record { from = refl; begun = refl; plainly = refl; otherwise = refl; counted = refl })
 
 -- THE PART
 
@@ -113,18 +111,3 @@ module _ (state : StreamPlayer) (file : List ℕ) (room : ℕ) (c : Current) (le
     pub step-played : (records : List WriteRecord) (free : ℕ) → gathered state file (limitOf state file c) (c .«operation_count» - c .«operation_index») room q ≡ ok (record { records = records; room = free; progress = behind }) → left ≤ c .«operation_count» - c .«operation_index» → step ≡ stepTo c left cursor writes plain others count → step .taken ≡ true → call state file room ≡ ok (answer records)
     step-played records free is few s taken =
         current-call state file room c e there ∙ ap as25 (part-step records free few (current-going state file c e there) is (step-taken c left cursor writes plain others count step s taken))
-
-    -- its plan: the same without the records
-    pub step-planned : (free : ℕ) → paced state file (limitOf state file c) (c .«operation_count» - c .«operation_index») room q ≡ ok (free, behind) → left ≤ c .«operation_count» - c .«operation_index» → count ≡ room - free → step ≡ stepTo c left cursor writes plain others count → step .taken ≡ true → planned state file room ≡ ok (record { count = count; complete = step .complete; next = moved state (stepped (state .progress) step) })
-    step-planned free is few size s taken =
-        go (gathered state file (limitOf state file c) (c .«operation_count» - c .«operation_index») room q) refl (sym (paced-is state file (limitOf state file c) (c .«operation_count» - c .«operation_index») room q) ∙ is)
-      where
-        go : (x : Checked Gathered) → gathered state file (limitOf state file c) (c .«operation_count» - c .«operation_index») room q ≡ x → mapped {B = ℕ × Progress} (λ (g : Gathered). (g .room, g .progress)) x ≡ ok (free, behind) → planned state file room ≡ ok (record { count = count; complete = step .complete; next = moved state (stepped (state .progress) step) })
-        go (refused number place) g h = absurd (refused-not-ok h)
-        go (ok found) g h =
-            let total = room-taken state file (limitOf state file c) (c .«operation_count» - c .«operation_index») room q found g in
-            let room′ : found .room ≡ free = ap (λ (x : ℕ × Progress). x .0) (ok-is h) in
-            let progress′ : found .progress ≡ behind = ap (λ (x : ℕ × Progress). x .1) (ok-is h) in
-            let size′ : length (found .records) ≡ count = omega (arith, total, room′, size) in
-            let played = step-played (found .records) (found .room) (g ∙ ap (λ (p : Progress). ok (record { records = found .records; room = found .room; progress = p })) progress′) few s taken in
-            planned-is state file room ∙ ap (mapped planOf) played ∙ ap (λ (n : ℕ). ok (record { count = n; complete = step .complete; next = moved state (stepped (state .progress) step) })) size′

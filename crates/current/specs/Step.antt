@@ -11,17 +11,17 @@ use Rattle.current.specs.declared.Step.{Step}
 -- the call is not taken
 abbrev pub noStep : Step
 noStep =
-    record { taken = false; from = 0; plain = 0; others = 0; count = 0; complete = false; part = partNumber Between; cursor = 0; «operation_index» = 0; «operation_count» = 0; «write_index» = 0; «frame_index» = 0 }
+    record { taken = false; from = 0; made = 0; plain = 0; others = 0; count = 0; complete = false; part = partNumber Between; cursor = 0; «operation_index» = 0; «operation_count» = 0; «write_index» = 0; «frame_index» = 0 }
 
 -- some of the part's operations stay
 abbrev pub stepWithin : Current → (left cursor writes plain others count : ℕ) → Step
 stepWithin c left cursor writes plain others count =
-    record { taken = true; from = c .cursor; plain = plain; others = others; count = count; complete = false; part = c .part; cursor = cursor; «operation_index» = c .«operation_count» - left; «operation_count» = c .«operation_count»; «write_index» = writes; «frame_index» = c .«frame_index» }
+    record { taken = true; from = c .cursor; made = c .«write_index»; plain = plain; others = others; count = count; complete = false; part = c .part; cursor = cursor; «operation_index» = c .«operation_count» - left; «operation_count» = c .«operation_count»; «write_index» = writes; «frame_index» = c .«frame_index» }
 
 -- the frame ends
 abbrev pub stepToEnd : Current → (cursor plain others count : ℕ) → Step
 stepToEnd c cursor plain others count =
-    record { taken = true; from = c .cursor; plain = plain; others = others; count = count; complete = true; part = partNumber Between; cursor = cursor; «operation_index» = 0; «operation_count» = 0; «write_index» = 0; «frame_index» = c .«frame_index» }
+    record { taken = true; from = c .cursor; made = c .«write_index»; plain = plain; others = others; count = count; complete = true; part = partNumber Between; cursor = cursor; «operation_index» = 0; «operation_count» = 0; «write_index» = 0; «frame_index» = c .«frame_index» }
 
 -- no operation stays; the call that ends the opening is not taken
 unfoldable pub stepEnding : Current → (cursor plain others count : ℕ) → Step

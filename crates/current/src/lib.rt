@@ -26,10 +26,11 @@ pub struct Current {
 }
 
 // What a call takes, and what it changes in the progress. Of its `count` writes `plain` are those of plain WRITEs from `from` on, or
-// `others` are those of other operations: one of the two is 0.
+// `others` are those of WRITEs and FILLs from there on, behind the `made` ones of the first of them: one of the two is 0.
 pub struct Step {
     pub taken: bool,
     pub from: usize,
+    pub made: u32,
     pub plain: u32,
     pub others: usize,
     pub count: usize,
@@ -216,6 +217,7 @@ pub fn no_step() -> Step
     Step {
         taken: false,
         from: 0,
+        made: 0,
         plain: 0,
         others: 0,
         count: 0,
@@ -239,6 +241,7 @@ fn step_to_end(current: Current, cursor: usize, plain: u32, others: usize, count
     Step {
         taken: true,
         from: current.cursor,
+        made: current.write_index,
         plain: plain,
         others: others,
         count: count,
@@ -271,6 +274,7 @@ pub fn step_to(
     Step {
         taken: true,
         from: current.cursor,
+        made: current.write_index,
         plain: plain,
         others: others,
         count: count,

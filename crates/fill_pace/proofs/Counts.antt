@@ -9,7 +9,8 @@ use lib.Dec.{eqb, ltb}
 use lib.ListN.{getD}
 use Rattle.format.specs.Bytes.{byte, be, part}
 use Rattle.quick_rules.specs.Quick.{outOfBulk}
-use Rattle.fill_pace.specs.Fills.{countBy, addressBy, fillCount, countAt}
+use Rattle.fill_records.specs.Records.{writesIn}
+use Rattle.fill_pace.specs.Fills.{addressBy, fillCount, countAt}
 
 -- an address is the number in its bytes
 pub address-is : (width : ℕ) (bytes : List ℕ) (place : ℕ) → byte bytes (place + 3) < 256 → 3 ≤ width → width ≤ 4 → addressBy width (be 4 bytes place) ≡ be width bytes place
@@ -29,8 +30,8 @@ address-is width bytes place small low high = go (eqb width 3) refl
 pub record Counted (width : ℕ) (bytes starts ends : List ℕ) : Type 0 where
   pub opcode : byte bytes 0 ≤ 1
   pub target : byte bytes 1 ≤ 15
-  pub inside : outOfBulk (be width bytes 2) (countBy (byte bytes 0) (be 4 bytes (2 + width))) (getD starts (16 * byte bytes 0 + byte bytes 1) 0) (getD ends (16 * byte bytes 0 + byte bytes 1) 0) ≡ false
-  pub count : fillCount width bytes starts ends ≡ countBy (byte bytes 0) (be 4 bytes (2 + width))
+  pub inside : outOfBulk (be width bytes 2) (writesIn width bytes) (getD starts (16 * byte bytes 0 + byte bytes 1) 0) (getD ends (16 * byte bytes 0 + byte bytes 1) 0) ≡ false
+  pub count : fillCount width bytes starts ends ≡ writesIn width bytes
 
 -- three tests that a number is behind
 passed : (a b c : Bool) (n : ℕ) → eqb (cond a 0 (cond b 0 (cond c 0 n))) 0 ≡ false → (a ≡ false) × (b ≡ false) × (c ≡ false) × (cond a 0 (cond b 0 (cond c 0 n)) ≡ n)
@@ -42,7 +43,7 @@ passed false false false n e = (refl, refl, refl, refl)
 pub counted : (width : ℕ) (bytes starts ends : List ℕ) → eqb (fillCount width bytes starts ends) 0 ≡ false → Counted width bytes starts ends
 unfolding fillCount
 counted width bytes starts ends some =
-    let all = passed (ltb 1 (byte bytes 0)) (ltb 15 (byte bytes 1)) (outOfBulk (be width bytes 2) (countBy (byte bytes 0) (be 4 bytes (2 + width))) (getD starts (16 * byte bytes 0 + byte bytes 1) 0) (getD ends (16 * byte bytes 0 + byte bytes 1) 0)) (countBy (byte bytes 0) (be 4 bytes (2 + width))) some in
+    let all = passed (ltb 1 (byte bytes 0)) (ltb 15 (byte bytes 1)) (outOfBulk (be width bytes 2) (writesIn width bytes) (getD starts (16 * byte bytes 0 + byte bytes 1) 0) (getD ends (16 * byte bytes 0 + byte bytes 1) 0)) (writesIn width bytes) some in
     record { opcode = ltb-false 1 (byte bytes 0) (all .0); target = ltb-false 15 (byte bytes 1) (all .1); inside = all .2; count = all .3 }
 
 -- the count of an operation at a place: with 16 bytes before the limit, and without

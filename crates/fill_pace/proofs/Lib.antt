@@ -1,4 +1,4 @@
 pub mod Counts
 pub mod Steps
 pub mod Items
-pub mod Paced
+pub mod Gathered

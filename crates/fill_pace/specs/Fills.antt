@@ -1,6 +1,6 @@
 -- A part's operations as far as all of them are WRITEs and FILLs that a table of ranges allows.
 use Prim.Native.Nat.{ℕ, zero, suc, _+_, _*_, _-_, _/_, _^_}
-use mathlib.Core.Bool.{Bool, true, false, cond, _&&_, _||_}
+use mathlib.Core.Bool.{Bool, true, false, cond, _&&_}
 use mathlib.Core.List.{List}
 use lib.Dec.{eqb, leb, ltb}
 use lib.ListN.{getD}
@@ -9,15 +9,12 @@ use Rattle.format.specs.Bytes.{byte, be, part}
 use Rattle.format.specs.Operation.{addressWidth}
 use Rattle.quick_rules.specs.Quick.{outOfBulk}
 use Rattle.ranges.specs.Ranges.{startsOf, endsOf}
+use Rattle.fill_records.specs.Records.{writesIn}
 use Rattle.fill_pace.specs.declared.FillPace.{FillPace}
 
 -- where the walk stops
 abbrev pub stoppedAt : (taken : Bool) → (cursor left room writes : ℕ) → FillPace
 stoppedAt taken cursor left room writes = record { taken = taken; cursor = cursor; left = left; room = room; writes = writes }
-
--- how many writes a WRITE or a FILL makes
-abbrev pub countBy : (opcode size : ℕ) → ℕ
-countBy opcode size = cond (eqb opcode 0) 1 size
 
 -- an address by the number in four bytes, of which it has the first three or all
 abbrev pub addressBy : (width four : ℕ) → ℕ
@@ -26,7 +23,7 @@ addressBy width four = four / 2 ^ (8 * (4 - width))
 -- how many writes the operation in a part of 16 bytes makes if it is a WRITE or a FILL that the ranges allow, else 0
 unfoldable pub fillCount : (width : ℕ) → List ℕ → (starts ends : List ℕ) → ℕ
 fillCount width bytes starts ends =
-    let count = countBy (byte bytes 0) (be 4 bytes (2 + width)) in
+    let count = writesIn width bytes in
     let k = 16 * byte bytes 0 + byte bytes 1 in
     cond (ltb 1 (byte bytes 0)) 0
     (cond (ltb 15 (byte bytes 1)) 0
@@ -40,13 +37,14 @@ countAt file width starts ends limit at = cond (ltb limit (at + 16)) 0 (fillCoun
 abbrev pub sizeAt : List ℕ → (width at : ℕ) → ℕ
 sizeAt file width at = 3 + width + 4 * byte file at
 
--- so many operations from a cursor, for as many writes as there is room for; of the first one so many writes are made
+-- so many operations from a cursor, for as many writes as there is room for. Of the first one so many writes are made: where no other
+-- is left of it, it is not taken
 unfoldable pub fillsFrom : List ℕ → (width : ℕ) → (starts ends : List ℕ) → (limit left room cursor writes : ℕ) → FillPace
 fillsFrom file width starts ends limit zero room cursor writes = stoppedAt true cursor 0 room writes
 fillsFrom file width starts ends limit (suc left) room cursor writes =
     let count = countAt file width starts ends limit cursor in
     cond (eqb room 0) (stoppedAt true cursor (suc left) room writes)
-    (cond (eqb count 0 || ltb count writes) (stoppedAt false cursor (suc left) room writes)
+    (cond (leb count writes) (stoppedAt false cursor (suc left) room writes)
     (cond (ltb room (count - writes)) (stoppedAt true cursor (suc left) 0 (writes + room))
     (fillsFrom file width starts ends limit left (room - (count - writes)) (cursor + sizeAt file width cursor) 0)))
 

@@ -3,6 +3,7 @@
 use big_endian::byte_at;
 use big_endian::read_u32;
 use big_endian::window;
+use fill_records::by_opcode;
 use format::CardTable;
 use quick_rules::out_of_bulk;
 use ranges::RANGES;
@@ -12,10 +13,10 @@ ghost use mathlib.Core.Path.{_≡_};
 ghost use Prim.Native.Nat.{_≤_};
 ghost use lib.ListN.{length};
 ghost use Rattle.format.specs.Card.{cardsOf};
-ghost use Rattle.fill_pace.specs.Fills.{countBy, addressBy, fillCount, stoppedAt, fillsFrom, fillsPaced};
+ghost use Rattle.fill_pace.specs.Fills.{addressBy, fillCount, stoppedAt, fillsFrom, fillsPaced};
 
 // Where the player stops: the cursor, the operations and the room that are left, and the writes made of the operation at the cursor.
-// `taken` is false where it stops at an operation that is no WRITE or FILL, or that is not allowed.
+// `taken` is false where it stops at an operation that is no WRITE or FILL, that is not allowed, or whose writes are all made.
 pub struct FillPace {
     pub taken: bool,
     pub cursor: usize,
@@ -45,16 +46,6 @@ fn address_by(width: usize, four: u32) -> u32
     four >> spare
 }
 
-// How many writes a WRITE or a FILL makes. Both numbers are there, so that this is a choice and not a branch once it is compiled.
-fn count_by(opcode: u8, length: u32) -> u32
-    ensures { λ r. ⌜ r ≡ countBy opcode length ⌝ }
-{
-    if opcode == 0 {
-        return 1;
-    }
-    length
-}
-
 // How many writes the operation in 16 bytes makes if it is a WRITE or a FILL that the ranges allow, else 0.
 fn fill_count(bytes: &[u8], width: usize, starts: &[u32; RANGES], ends: &[u64; RANGES]) -> u32
     requires { ⌜ (3 ≤ width) × (width ≤ 4) ⌝ }
@@ -69,7 +60,7 @@ fn fill_count(bytes: &[u8], width: usize, starts: &[u32; RANGES], ends: &[u64; R
         return 0;
     }
     let address = address_by(width, read_u32(bytes, 2));
-    let count = count_by(opcode, read_u32(bytes, 2 + width));
+    let count = by_opcode(opcode, 1, read_u32(bytes, 2 + width));
     let k = 16 * opcode as usize + target as usize;
     if out_of_bulk(address, count, starts[k], ends[k]) {
         return 0;
@@ -108,10 +99,7 @@ fn fills_from(
         }
         let bytes = window(file, at);
         let count = fill_count(bytes, width, starts, ends);
-        if count == 0 {
-            return stopped(false, at, others, free, done);
-        }
-        if count < done {
+        if count <= done {
             return stopped(false, at, others, free, done);
         }
         let rest = count - done;

@@ -15,13 +15,10 @@ use Rattle.fill_pace.specs.Fills.{fillsPaced}
 abbrev pub leftOf : Current → ℕ
 leftOf c = c .«operation_count» - c .«operation_index»
 
--- the step to where the player then is. The last two tests never fail; they keep the subtractions exact
+-- the step to where the player then is
 abbrev pub fillStepBy : Current → (room : ℕ) → FillPace → Step
 fillStepBy c room paced =
-    cond (not (paced .taken)) noStep
-    (cond (ltb room (paced .room)) noStep
-    (cond (ltb (leftOf c) (paced .left)) noStep
-    (stepTo c (paced .left) (paced .cursor) (paced .writes) 0 (room - paced .room) (room - paced .room))))
+    cond (not (paced .taken)) noStep (stepTo c (paced .left) (paced .cursor) (paced .writes) 0 (room - paced .room) (room - paced .room))
 
 -- with room for so many records
 unfoldable pub fillStep : List ℕ → (version : ℕ) → List CardRequirement → Current → (room : ℕ) → Step

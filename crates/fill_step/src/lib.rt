@@ -38,13 +38,7 @@ pub fn fill_step(file: &[u8], version: u8, cards: CardTable, current: Current, r
     if !paced.taken {
         return no_step();
     }
-    if room < paced.room {
-        return no_step();
-    }
     let count = room - paced.room;
-    if left < paced.left {
-        return no_step();
-    }
     step_to(
         current,
         paced.left,

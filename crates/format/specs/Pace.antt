@@ -26,6 +26,12 @@ countOf (Write target address value) = 1
 countOf (Fill target address size value) = size
 countOf (Copy target address id source size) = size
 
+-- the address of its first write
+abbrev pub addressOf : Operation → ℕ
+addressOf (Write target address value) = address
+addressOf (Fill target address size value) = address
+addressOf (Copy target address id source size) = address
+
 -- a write of an operation, by its index
 abbrev pub writeAt : List ℕ → (directory : ℕ) → Operation → (i : ℕ) → WriteRecord
 writeAt file directory (Write target address value) i = write target (address + i) value

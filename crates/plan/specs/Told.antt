@@ -10,8 +10,6 @@ use Rattle.format.specs.Checked.{Checked, ok, refused, _>>=_}
 use Rattle.format.specs.Pace.{Plan, planFrame, plan}
 use Rattle.format.specs.Player.{frameBegun, frameEnded, closingAt, operationsLeft}
 use Rattle.format.specs.State.{moved}
-use Rattle.current.specs.declared.Step.{Step}
-use Rattle.current.specs.Step.{stepped}
 use Rattle.pace.specs.declared.operations.Paced.{Paced}
 use Rattle.plan.specs.declared.call.CallPlan.{CallPlan}
 use Rattle.plan.specs.declared.taken.Taken.{Taken}
@@ -26,10 +24,6 @@ noPlan state = record { number = 25; count = 0; complete = false; next = state }
 abbrev pub planTold : StreamPlayer → Checked Plan → CallPlan
 planTold state (ok plan) = record { number = 0; count = plan .count; complete = plan .complete; next = plan .next }
 planTold state (refused number place) = noPlan state
-
--- the answer of a state to a step that is taken
-abbrev pub stepTold : StreamPlayer → Step → CallPlan
-stepTold state step = record { number = 0; count = step .count; complete = step .complete; next = moved state (stepped (state .progress) step) }
 
 -- WHAT IS TAKEN OF A PART
 

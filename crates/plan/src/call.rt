@@ -6,9 +6,6 @@ use crate::opening::plan_opening;
 use crate::progress::begun;
 use crate::taken::Taken;
 use belongs::foreign;
-use current::Step;
-use current::current_part;
-use fill_step::fill_step;
 use format::Part;
 use format::Progress;
 use format::StreamPlayer;
@@ -18,7 +15,7 @@ use state::part_of;
 ghost use mathlib.Core.Path.{_≡_};
 ghost use Rattle.format.specs.Pace.{plan, planned};
 ghost use Rattle.format.specs.State.{partOf};
-ghost use Rattle.plan.specs.Told.{noPlan, planTold, stepTold, takenTold, planBetween};
+ghost use Rattle.plan.specs.Told.{noPlan, planTold, takenTold, planBetween};
 
 // A call's plan: refusal 25 or 0, how many writes it takes, whether the vsync is then complete, and the next state. A refused call
 // takes no write, and its state stays.
@@ -96,8 +93,8 @@ fn told(state: StreamPlayer, taken: Taken) -> CallPlan
     }
 }
 
-// The call by the part that is playing, operation by operation. A finished state reads no file.
-fn plan_operations(state: StreamPlayer, file: &[u8], room: usize) -> CallPlan
+// One call, on any state and any bytes, with room for so many records. A finished state reads no file.
+pub fn plan_call(state: StreamPlayer, file: &[u8], room: usize) -> CallPlan
     ensures { λ r. ⌜ r ≡ planTold state (planned state (now (file .entry)) room) ⌝ }
 {
     let progress = state.progress;
@@ -114,41 +111,4 @@ fn plan_operations(state: StreamPlayer, file: &[u8], room: usize) -> CallPlan
         return refused_plan(state);
     }
     told(state, plan_part(file, state, room, progress))
-}
-
-// The answer of a state to a step that is taken.
-fn stepped(state: StreamPlayer, step: Step) -> CallPlan
-    ensures { λ r. ⌜ r ≡ stepTold state step ⌝ }
-{
-    let waves = state.progress.wave_sources;
-    let progress = Progress {
-        part: step.part,
-        cursor: step.cursor,
-        operation_index: step.operation_index,
-        operation_count: step.operation_count,
-        write_index: step.write_index,
-        frame_index: step.frame_index,
-        initialized: state.progress.initialized,
-        finished: state.progress.finished,
-        wave_sources: waves,
-    };
-    let next = moved(state, progress);
-    CallPlan {
-        number: 0,
-        count: step.count,
-        complete: step.complete,
-        next: next,
-    }
-}
-
-// One call, on any state and any bytes, with room for so many records. WRITEs and FILLs alone are planned by a table.
-pub fn plan_call(state: StreamPlayer, file: &[u8], room: usize) -> CallPlan
-    ensures { λ r. ⌜ r ≡ planTold state (planned state (now (file .entry)) room) ⌝ }
-{
-    let current = current_part(file, state.header, state.cards.count, state.progress);
-    let step = fill_step(file, state.header.version, state.cards, current, room);
-    if step.taken {
-        return stepped(state, step);
-    }
-    plan_operations(state, file, room)
 }

@@ -21,11 +21,12 @@ use Rattle.empty_step.specs.declared.EmptyStep.{EmptyStep}
 use Rattle.empty_step.specs.Empty.{emptyOf, emptied}
 use Rattle.empty_step.proofs.Emptied.{empty-call}
 use Rattle.current.specs.declared.Step.{Step}
+use Rattle.current.specs.Current.{currentOf}
 use Rattle.current.specs.Step.{stepped}
 use Rattle.quick_step.specs.Step.{stepOf}
-use Rattle.quick_step.proofs.Stepped.{step-call, step-plainly}
-use Rattle.store_writes.specs.Stored.{writesStored}
-use Rattle.store_writes.proofs.Writes.{writes-long, storable-all}
+use Rattle.quick_step.proofs.Stepped.{step-kind, step-call}
+use Rattle.store_step.specs.Stored.{stepStored}
+use Rattle.store_step.proofs.Records.{step-stored, step-long}
 use Rattle.player.specs.declared.vsync.Vsync.{Vsync}
 use Rattle.player.specs.Vsync.{vsyncOf, stateAfter}
 
@@ -87,15 +88,12 @@ stepTold step = record { number = 0; count = step .count; complete = step .compl
 abbrev pub steppedOn : StreamPlayer → Step → StreamPlayer
 steppedOn state step = moved state (stepped (state .progress) step)
 
-pub step-told : (state : StreamPlayer) (file : List ℕ) (run : List WriteRecord) (step : Step) (zs : List WriteRecord) → step ≡ stepOf file (state .header) (state .cards .count) (state .progress) (length run) → step .taken ≡ true → zs ≡ writesStored file (state .header .version) (step .from) (step .plain) run → (stepTold step ≡ vsyncOf (call state file (length run))) × (steppedOn state step ≡ stateAfter state (call state file (length run))) × (zs ≡ runAfter run (call state file (length run)))
-unfolding writesStored
+pub step-told : (state : StreamPlayer) (file : List ℕ) (run : List WriteRecord) (step : Step) (zs : List WriteRecord) → step ≡ stepOf file (state .header) (state .cards) (state .progress) (length run) → step .taken ≡ true → zs ≡ stepStored file (state .header .version) step run → (stepTold step ≡ vsyncOf (call state file (length run))) × (steppedOn state step ≡ stateAfter state (call state file (length run))) × (zs ≡ runAfter run (call state file (length run)))
 step-told state file run step zs e taken wrote =
-    let version = state .header .version in
     let is = step-call state file (length run) step e taken in
-    let plainly = step-plainly file (state .header) (state .cards .count) (state .progress) (length run) step e taken in
-    let long = plainly .same ∙ sym (writes-long version file (step .plain) (step .from)) in
-    let all = storable-all version file (length run) (plainly .end) (step .from) (step .plain) (plainly .inside) (rw (← (plainly .same)) (plainly .fit)) (plainly .some) in
-    (rw is (ap (λ (n : ℕ). record { number = 0; count = n; complete = step .complete }) long), rw is, rw is (wrote ∙ rw all))
+    let kind = step-kind file (state .header) (state .cards) (state .progress) (length run) step e taken in
+    let c = currentOf file (state .header) (state .cards .count) (state .progress) in
+    (rw is (ap (λ (n : ℕ). record { number = 0; count = n; complete = step .complete }) (step-long file (state .header) (state .cards) c step (length run) kind)), rw is, rw is (wrote ∙ step-stored file (state .header) (state .cards) c step run kind))
 
 -- AN EMPTY FRAME
 

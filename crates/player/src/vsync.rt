@@ -5,7 +5,7 @@ use format::WriteRecord;
 use plan::plan_call;
 use quick_step::quick_step;
 use store::store_call;
-use store_writes::store_writes;
+use store_step::store_step;
 ghost use mathlib.Core.Path.{_≡_};
 ghost use lib.ListN.{length};
 ghost use Rattle.format.specs.Player.{call, runAfter};
@@ -36,22 +36,16 @@ fn planned_vsync(state: &mut StreamPlayer, file: &[u8], run: &mut [WriteRecord])
     }
 }
 
-// Any call that is not an empty frame's. One that takes nothing but plain WRITEs reads and changes a few numbers of the state.
+// Any call that is not an empty frame's. One that takes nothing but WRITEs and FILLs changes a few numbers of the state.
 fn busy_vsync(state: &mut StreamPlayer, file: &[u8], run: &mut [WriteRecord]) -> Vsync
     ensures { λ r. ⌜ (r ≡ vsyncOf (call (now (state .entry)) (now (file .entry)) (length (now (run .entry)))))
         × (now (state .exit) ≡ stateAfter (now (state .entry)) (call (now (state .entry)) (now (file .entry)) (length (now (run .entry)))))
         × (now (run .exit) ≡ runAfter (now (run .entry)) (call (now (state .entry)) (now (file .entry)) (length (now (run .entry))))) ⌝ }
 {
     let seen = *state;
-    let step = quick_step(
-        file,
-        seen.header,
-        seen.cards.count,
-        seen.progress,
-        run.len(),
-    );
+    let step = quick_step(file, seen.header, seen.cards, seen.progress, run.len());
     if step.taken {
-        store_writes(run, file, seen.header.version, step.from, step.plain);
+        store_step(run, file, seen.header.version, step);
         state.progress.part = step.part;
         state.progress.cursor = step.cursor;
         state.progress.operation_index = step.operation_index;

@@ -5,16 +5,10 @@ use mathlib.Core.List.{List}
 use lib.Dec.{ltb}
 use Rattle.format.specs.declared.operation.Operation.{Operation}
 use Rattle.format.specs.declared.operation.Operation.the-variants.{Write, Fill, Copy}
-use Rattle.format.specs.Pace.{countOf}
+use Rattle.format.specs.Pace.{countOf, addressOf}
 use Rattle.format.specs.Pool.{poolAt}
 use Rattle.writes.specs.declared.Segment.{Segment}
 use Rattle.segments.specs.Place.{oneValue}
-
--- the address of an operation's first write
-abbrev pub addressOf : Operation → ℕ
-addressOf (Write target address value) = address
-addressOf (Fill target address size value) = address
-addressOf (Copy target address id source size) = address
 
 -- more writes are done than there are, or the next one's address has more than 32 bits
 unfoldable pub unplayable : Operation → (done : ℕ) → Bool

@@ -7,13 +7,13 @@ use Rattle.format.specs.declared.operation.Operation.{Operation}
 use Rattle.format.specs.declared.player.StreamPlayer.{StreamPlayer}
 use Rattle.format.specs.Checked.{Checked, ok, refused}
 use Rattle.format.specs.Operation.{Item}
-use Rattle.format.specs.Pace.{countOf}
+use Rattle.format.specs.Pace.{countOf, addressOf}
 use Rattle.segments.specs.declared.place.Place.{Place}
 use Rattle.segments.specs.declared.place.Turn.{Turn}
 use Rattle.segments.specs.Place.{oneValue, stopped, onward, runPlace}
 use Rattle.segments.specs.Closing.{closingSegment}
 use Rattle.segments.specs.Decoded.{decoded}
-use Rattle.segments.specs.Operation.{addressOf, unplayable, segmentOf}
+use Rattle.segments.specs.Operation.{unplayable, segmentOf}
 
 -- there is no next segment
 abbrev pub halted : Place → Turn

@@ -1,5 +1,4 @@
 pub mod Storing
-pub mod Address
 pub mod Taken
 pub mod Parts
 pub mod PartStored

@@ -13,21 +13,21 @@ use Rattle.format.specs.declared.player.Progress.{Progress}
 use Rattle.format.specs.declared.player.StreamPlayer.{StreamPlayer}
 use Rattle.format.specs.Checked.{ok, _>>=_}
 use Rattle.format.specs.Operation.{Item}
-use Rattle.format.specs.Pace.{countOf}
+use Rattle.format.specs.Pace.{countOf, addressOf}
 use Rattle.format.specs.Player.{itemUsed, bytesAt, Gathered, gathered}
 use Rattle.format.specs.Writes.{writesWith}
 use Rattle.format.proofs.Checks.{through, ok-is}
+use Rattle.agreement.proofs.Address.{address-small, item-there}
 use Rattle.agreement.proofs.Paced.{Writes, usable}
 use Rattle.segments.specs.declared.place.Place.{Place}
 use Rattle.segments.specs.declared.place.Turn.{Turn}
-use Rattle.segments.specs.Operation.{addressOf, unplayable, segmentOf}
+use Rattle.segments.specs.Operation.{unplayable, segmentOf}
 use Rattle.segments.specs.Place.{stopped, onward}
 use Rattle.segments.specs.Turn.{turn}
 use Rattle.writes.specs.Segment.{inserted, segmentStored}
 use Rattle.writes.proofs.Lists.{length-inserted}
 use Rattle.store.specs.Stored.{storedFrom}
 use Rattle.store.proofs.Storing.{stored-none, stored-step}
-use Rattle.store.proofs.Address.{address-small, item-there}
 use Rattle.store.proofs.Taken.{taken-stored}
 use Rattle.store.proofs.Parts.{Part, restOf, Step, step-of, gathered-full, inserted-twice, playable, turn-stops, turn-goes}
 

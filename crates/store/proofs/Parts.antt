@@ -15,12 +15,12 @@ use Rattle.format.specs.declared.player.StreamPlayer.{StreamPlayer}
 use Rattle.format.specs.declared.player.WaveSource.{WaveSource}
 use Rattle.format.specs.Checked.{ok, _>>=_}
 use Rattle.format.specs.Operation.{Item, itemAt}
-use Rattle.format.specs.Pace.{countOf}
+use Rattle.format.specs.Pace.{countOf, addressOf}
 use Rattle.format.specs.Player.{settingIn, itemUsed, bytesAt, wavesBy, placed, Gathered, gathered}
 use Rattle.format.specs.Writes.{writesWith}
 use Rattle.format.proofs.Checks.{through, passed-test, ok-is}
 use Rattle.segments.specs.declared.place.Place.{Place}
-use Rattle.segments.specs.Operation.{addressOf, unplayable, segmentOf}
+use Rattle.segments.specs.Operation.{unplayable, segmentOf}
 use Rattle.segments.specs.Place.{stopped, onward}
 use Rattle.segments.specs.Turn.{turn, operationTurn}
 use Rattle.writes.specs.Segment.{inserted}

@@ -1,6 +1,6 @@
 -- The segment of an operation stores its writes.
 use Prim.Native.Nat.{ℕ, _+_, _≤_, _<_}
-use mathlib.Core.Bool.{true, false, false≢true}
+use mathlib.Core.Bool.{true, false≢true}
 use mathlib.Core.List.{List}
 use mathlib.Core.Path.{_≡_, refl, sym, ap, _∙_}
 use native.Mathlib.Omega.{arith}
@@ -10,13 +10,13 @@ use Rattle.format.specs.declared.operation.Operation.{Operation}
 use Rattle.format.specs.declared.operation.Operation.the-variants.{Write, Fill, Copy}
 use Rattle.format.specs.declared.operation.WriteRecord.{WriteRecord}
 use Rattle.format.specs.Bytes.{byte, part}
-use Rattle.format.specs.Pace.{countOf, writeAt}
+use Rattle.format.specs.Pace.{countOf, addressOf, writeAt}
 use Rattle.format.specs.Player.{bytesAt}
 use Rattle.format.specs.Pool.{poolAt}
 use Rattle.format.specs.Writes.{write, writesWith}
 use Rattle.agreement.proofs.Paced.{Writes}
 use Rattle.agreement.proofs.Used.{length-upward}
-use Rattle.segments.specs.Operation.{addressOf, segmentOf}
+use Rattle.segments.specs.Operation.{segmentOf}
 use Rattle.writes.specs.declared.Segment.{Segment}
 use Rattle.writes.specs.Segment.{recordsOf, inserted, segmentStored}
 use Rattle.writes.proofs.Segments.{valueAt, records-count, record-of, stored-all}

@@ -42,8 +42,8 @@ add-read-u32 c = search needs
 read-u32-requires-2 : tie.Need-read-u32-requires-2
 read-u32-requires-2 c κs = search needs
 
-count-by-requires : tie.Need-count-by-requires
-count-by-requires c κs = search needs
+by-opcode-requires : tie.Need-by-opcode-requires
+by-opcode-requires c κs = search needs
 
 cast-k : tie.Need-cast-k
 cast-k c = search needs
@@ -78,7 +78,7 @@ returns-3 c =
     let o = c .before in
     let n = o .before .before .before in
     let u = n .before in
-    simp (← (addressed (u .before)), ← (u .before .before .before .before .before .before .byte-at .ensures), ← (u .before .before .before .before .before .byte-at2 .ensures), le-ltb _ _ (u .before .before .before .before .if1 .left), le-ltb _ _ (u .before .before .before .if2 .left), ← (u .read-u322 .ensures), ← (n .count-by .ensures), ← (o .out-of-bulk .ensures), c .if3 .taken)
+    simp (← (addressed (u .before)), ← (u .before .before .before .before .before .before .byte-at .ensures), ← (u .before .before .before .before .before .byte-at2 .ensures), le-ltb _ _ (u .before .before .before .before .if1 .left), le-ltb _ _ (u .before .before .before .if2 .left), ← (u .read-u322 .ensures), ← (n .by-opcode .ensures), ← (o .out-of-bulk .ensures), c .if3 .taken)
 
 returns-4 : tie.Need-returns-4
 unfolding fillCount
@@ -86,7 +86,7 @@ returns-4 c =
     let o = c .before in
     let n = o .before .before .before in
     let u = n .before in
-    simp (← (addressed (u .before)), ← (u .before .before .before .before .before .before .byte-at .ensures), ← (u .before .before .before .before .before .byte-at2 .ensures), le-ltb _ _ (u .before .before .before .before .if1 .left), le-ltb _ _ (u .before .before .before .if2 .left), ← (u .read-u322 .ensures), ← (n .count-by .ensures), ← (o .out-of-bulk .ensures), c .if3 .left)
+    simp (← (addressed (u .before)), ← (u .before .before .before .before .before .before .byte-at .ensures), ← (u .before .before .before .before .before .byte-at2 .ensures), le-ltb _ _ (u .before .before .before .before .if1 .left), le-ltb _ _ (u .before .before .before .if2 .left), ← (u .read-u322 .ensures), ← (n .by-opcode .ensures), ← (o .out-of-bulk .ensures), c .if3 .left)
 
 pub fill-count-spec : {M : Type 1} → statement M
 fill-count-spec =
@@ -100,7 +100,7 @@ fill-count-spec =
     address-by-requires
     add-read-u32
     read-u32-requires-2
-    count-by-requires
+    by-opcode-requires
     cast-k
     mul-k
     cast-k-2

@@ -1,12 +1,12 @@
 -- `fill_pace::fills_from` meets its contract: what remains decides. Assumes nothing.
 use borrow.Author.Needs.{needs}
 use native.Mathlib.Omega.{arith}
-use borrow.Author.Tests.{eq-eqb, ne-eqb, le-ltb, lt-ltb}
+use borrow.Author.Tests.{ne-eqb, le-leb, lt-leb, le-ltb, lt-ltb}
 use Prim.Native.Nat.{ℕ, _+_, _≤_}
 use mathlib.Core.Path.{_≡_, refl, _∙_}
-use mathlib.Core.Bool.{true, false, _||_, or-true}
+use mathlib.Core.Bool.{true, false}
 use native.Mathlib.Nat.{add-zero}
-use lib.Dec.{eqb, ltb}
+use lib.Dec.{leb}
 use Rattle.format.specs.Bytes.{byte}
 use Rattle.format.proofs.Bytes.{byte-part}
 use Rattle.fill_pace.specs.Fills.{countAt, fillsFrom}
@@ -38,11 +38,12 @@ said q =
     rw (count-within (a .file .now) (a .width) (a .starts .now) (a .ends .now) (a .limit) (l .loop .at) (omega arith), ← (w .window .ensures), q .fill-count .ensures)
 
 -- an operation that has a count has the opcode 0 or 1
-low : (e : tie.Else6 Inv-loop μ-loop) → byte (e .before .before .before .before .window .result .now) 0 ≤ 1
+low : (e : tie.Else5 Inv-loop μ-loop) → byte (e .before .before .before .window .result .now) 0 ≤ 1
 low e =
-    let q = e .before .before .before in
+    let q = e .before .before in
+    let some : q .fill-count .result ≡ 0 → ⊥ = λ none. omega (arith, e .before .if4 .left) in
     let a = q .before .before .before .before .before .before .before .before .args in
-    counted (a .width) (q .before .window .result .now) (a .starts .now) (a .ends .now) (rw (← (q .fill-count .ensures)) (ne-eqb _ _ (e .before .before .if4 .left))) .opcode
+    counted (a .width) (q .before .window .result .now) (a .starts .now) (a .ends .now) (rw (← (q .fill-count .ensures)) (ne-eqb _ _ some)) .opcode
 
 loop-holds : tie.Need-loop-holds Inv-loop μ-loop
 loop-holds c = refl
@@ -63,7 +64,7 @@ returns-2 : tie.Need-returns-2 Inv-loop μ-loop
 returns-2 c =
     let l = c .before .before .before .before in
     let a = l .before .before .args in
-    let none : (eqb (countOn (l .before) (l .loop .at)) 0 || ltb (countOn (l .before) (l .loop .at)) (l .loop .done)) ≡ true = rw (count-past (a .file .now) (a .width) (a .starts .now) (a .ends .now) (a .limit) (l .loop .at) (lt-ltb (a .limit) (l .loop .at + 16) (omega arith))) in
+    let none : leb (countOn (l .before) (l .loop .at)) (l .loop .done) ≡ true = rw (count-past (a .file .now) (a .width) (a .starts .now) (a .ends .now) (a .limit) (l .loop .at) (lt-ltb (a .limit) (l .loop .at + 16) (omega arith))) (le-leb 0 (l .loop .done) (omega arith)) in
     rw (l .loop .inv, fills-none (a .file .now) (a .width) (a .starts .now) (a .ends .now) (a .limit) (l .loop .others) (l .loop .free) (l .loop .at) (l .loop .done) (omega arith) (omega arith) none) (c .stopped2 .ensures)
 
 stopped-requires-3 : tie.Need-stopped-requires-3 Inv-loop μ-loop
@@ -73,7 +74,7 @@ returns-3 : tie.Need-returns-3 Inv-loop μ-loop
 returns-3 c =
     let l = c .before .before .before .before .before in
     let a = l .before .before .args in
-    let none : (eqb (countOn (l .before) (l .loop .at)) 0 || ltb (countOn (l .before) (l .loop .at)) (l .loop .done)) ≡ true = rw (count-past (a .file .now) (a .width) (a .starts .now) (a .ends .now) (a .limit) (l .loop .at) (lt-ltb (a .limit) (l .loop .at + 16) (omega arith))) in
+    let none : leb (countOn (l .before) (l .loop .at)) (l .loop .done) ≡ true = rw (count-past (a .file .now) (a .width) (a .starts .now) (a .ends .now) (a .limit) (l .loop .at) (lt-ltb (a .limit) (l .loop .at + 16) (omega arith))) (le-leb 0 (l .loop .done) (omega arith)) in
     rw (l .loop .inv, fills-none (a .file .now) (a .width) (a .starts .now) (a .ends .now) (a .limit) (l .loop .others) (l .loop .free) (l .loop .at) (l .loop .done) (omega arith) (omega arith) none) (c .stopped3 .ensures)
 
 window-requires : tie.Need-window-requires Inv-loop μ-loop
@@ -90,22 +91,14 @@ returns-4 c =
     let l = c .before .before .before .before .before .before .before .before in
     let a = l .before .before .args in
     let q = c .before .before in
-    let none : (eqb (countOn (l .before) (l .loop .at)) 0 || ltb (countOn (l .before) (l .loop .at)) (l .loop .done)) ≡ true = rw (said q, eq-eqb _ _ (c .before .if4 .taken)) in
+    let none : leb (countOn (l .before) (l .loop .at)) (l .loop .done) ≡ true = rw (said q, le-leb _ _ (c .before .if4 .taken)) in
     rw (l .loop .inv, fills-none (a .file .now) (a .width) (a .starts .now) (a .ends .now) (a .limit) (l .loop .others) (l .loop .free) (l .loop .at) (l .loop .done) (omega arith) (omega arith) none) (c .stopped4 .ensures)
 
-stopped-requires-5 : tie.Need-stopped-requires-5 Inv-loop μ-loop
-stopped-requires-5 c κs = search needs
+sub-rest : tie.Need-sub-rest Inv-loop μ-loop
+sub-rest c = search needs
 
-returns-5 : tie.Need-returns-5 Inv-loop μ-loop
-returns-5 c =
-    let l = c .before .before .before .before .before .before .before .before .before in
-    let a = l .before .before .args in
-    let q = c .before .before .before in
-    let none : (eqb (countOn (l .before) (l .loop .at)) 0 || ltb (countOn (l .before) (l .loop .at)) (l .loop .done)) ≡ true = rw (said q, lt-ltb _ _ (c .before .if5 .taken), or-true) in
-    rw (l .loop .inv, fills-none (a .file .now) (a .width) (a .starts .now) (a .ends .now) (a .limit) (l .loop .others) (l .loop .free) (l .loop .at) (l .loop .done) (omega arith) (omega arith) none) (c .stopped5 .ensures)
-
-cast-if6 : tie.Need-cast-if6 Inv-loop μ-loop
-cast-if6 c = search needs
+cast-if5 : tie.Need-cast-if5 Inv-loop μ-loop
+cast-if5 c = search needs
 
 cast-stopped : tie.Need-cast-stopped Inv-loop μ-loop
 cast-stopped c = search needs
@@ -113,18 +106,18 @@ cast-stopped c = search needs
 add-stopped : tie.Need-add-stopped Inv-loop μ-loop
 add-stopped c = search needs
 
-stopped-requires-6 : tie.Need-stopped-requires-6 Inv-loop μ-loop
-stopped-requires-6 c κs = search needs
+stopped-requires-5 : tie.Need-stopped-requires-5 Inv-loop μ-loop
+stopped-requires-5 c κs = search needs
 
-returns-6 : tie.Need-returns-6 Inv-loop μ-loop
-returns-6 c =
+returns-5 : tie.Need-returns-5 Inv-loop μ-loop
+returns-5 c =
     let f = c .before .before in
-    let q = f .before .before in
+    let q = f .before in
     let l = q .before .before .before .before .before .before in
     let a = l .before .before .args in
-    let some : (eqb (countOn (l .before) (l .loop .at)) 0 || ltb (countOn (l .before) (l .loop .at)) (l .loop .done)) ≡ false = rw (said q, ne-eqb _ _ (f .before .if4 .left), le-ltb _ _ (f .if5 .left)) in
+    let some : leb (countOn (l .before) (l .loop .at)) (l .loop .done) ≡ false = rw (said q, lt-leb _ _ (f .if4 .left)) in
     let step = fills-step (a .file .now) (a .width) (a .starts .now) (a .ends .now) (a .limit) (l .loop .others) (l .loop .free) (l .loop .at) (l .loop .done) (omega arith) (omega arith) some in
-    rw (l .loop .inv, step, said q, lt-ltb _ _ (c .before .if6 .taken)) (c .stopped6 .ensures)
+    rw (l .loop .inv, step, said q, lt-ltb _ _ (c .before .if5 .taken)) (c .stopped5 .ensures)
 
 cast-free : tie.Need-cast-free Inv-loop μ-loop
 cast-free c = search needs
@@ -159,24 +152,24 @@ loop-less c = search needs
 loop-again : tie.Need-loop-again Inv-loop μ-loop
 loop-again c =
     let f = c .before .before in
-    let q = f .before .before in
+    let q = f .before in
     let w = q .before in
     let l = w .before .before .before .before .before in
     let a = l .before .before .args in
     let opcode : c .byte-at .result ≡ byte (a .file .now) (l .loop .at) = rw (c .byte-at .ensures, w .window .ensures) (byte-part (a .file .now) (l .loop .at) 16 0 (omega arith) ∙ rw add-zero) in
-    let some : (eqb (countOn (l .before) (l .loop .at)) 0 || ltb (countOn (l .before) (l .loop .at)) (l .loop .done)) ≡ false = rw (said q, ne-eqb _ _ (f .before .if4 .left), le-ltb _ _ (f .if5 .left)) in
+    let some : leb (countOn (l .before) (l .loop .at)) (l .loop .done) ≡ false = rw (said q, lt-leb _ _ (f .if4 .left)) in
     let step = fills-step (a .file .now) (a .width) (a .starts .now) (a .ends .now) (a .limit) (l .loop .others) (l .loop .free) (l .loop .at) (l .loop .done) (omega arith) (omega arith) some in
-    rw (l .loop .inv, step, said q, le-ltb _ _ (c .before .if6 .left), opcode)
+    rw (l .loop .inv, step, said q, le-ltb _ _ (c .before .if5 .left), opcode)
 
-stopped-requires-7 : tie.Need-stopped-requires-7 Inv-loop μ-loop
-stopped-requires-7 c κs = search needs
+stopped-requires-6 : tie.Need-stopped-requires-6 Inv-loop μ-loop
+stopped-requires-6 c κs = search needs
 
-returns-7 : tie.Need-returns-7 Inv-loop μ-loop
-returns-7 c =
+returns-6 : tie.Need-returns-6 Inv-loop μ-loop
+returns-6 c =
     let l = c .before .before in
     let a = l .before .before .args in
     let all : l .loop .others ≡ 0 = omega arith in
-    rw (c .stopped7 .ensures, l .loop .inv, all, fills-end (a .file .now) (a .width) (a .starts .now) (a .ends .now) (a .limit))
+    rw (c .stopped6 .ensures, l .loop .inv, all, fills-end (a .file .now) (a .width) (a .starts .now) (a .ends .now) (a .limit))
 
 pub fills-from-spec : {M : Type 1} → statement M
 fills-from-spec =
@@ -195,13 +188,12 @@ fills-from-spec =
     fill-count-requires
     stopped-requires-4
     returns-4
-    stopped-requires-5
-    returns-5
-    cast-if6
+    sub-rest
+    cast-if5
     cast-stopped
     add-stopped
-    stopped-requires-6
-    returns-6
+    stopped-requires-5
+    returns-5
     cast-free
     sub-free
     add-at
@@ -213,5 +205,5 @@ fills-from-spec =
     sub-others
     loop-less
     loop-again
-    stopped-requires-7
-    returns-7)
+    stopped-requires-6
+    returns-6)

@@ -1,6 +1,11 @@
+-- `fill_step` meets its contract. Assumes nothing.
 use borrow.Author.Needs.{needs}
 use borrow.Author.Tests.{le-leb, le-ltb, lt-leb, lt-ltb}
-use Rattle.fill_step.specs.FillStep.{fillStep}
+use native.Mathlib.Omega.{arith}
+use Prim.Native.Nat.{_≤_}
+use Rattle.format.specs.Card.{cardsOf}
+use Rattle.fill_pace.proofs.Steps.{fills-fewer}
+use Rattle.fill_step.specs.FillStep.{leftOf, fillStep}
 use Rattle.fill_step.proofs.fill_step.Statement.{statement}
 use Rattle.fill_step.proofs.fill_step.Tie as tie
 
@@ -34,26 +39,26 @@ returns-3 : tie.Need-returns-3
 unfolding fillStep
 returns-3 c = simp (c .before .before .before .before .before .before .before .if1 .left, ← (c .before .before .before .before .before .before .byte-at .ensures), le-ltb _ _ (c .before .before .before .before .before .if2 .left), le-leb _ _ (c .before .before .before .before .before .if2 .left), ← (c .before .before .before .pace-fills .ensures), c .before .if3 .taken, ← (c .no-step3 .ensures))
 
-no-step-requires-4 : tie.Need-no-step-requires-4
-no-step-requires-4 c κs = search needs
+-- no more operations and no more room are left than there were
+fewer : (c : tie.After-struct-known3) → (c .before .before .before .pace-fills .result .left ≤ leftOf (c .before .before .before .before .before .before .before .before .before .args .current)) × (c .before .before .before .pace-fills .result .room ≤ c .before .before .before .before .before .before .before .before .before .args .room)
+fewer c =
+    let k = c .before .before .before in
+    let a = k .before .before .before .before .before .before .args in
+    fills-fewer (a .file .now) (a .version) (cardsOf (a .cards)) (a .current .limit) (leftOf (a .current)) (a .room) (a .current .cursor) (a .current .«write_index») (k .pace-fills .result) (k .pace-fills .ensures)
+
+sub-count : tie.Need-sub-count
+sub-count c = fewer c .1
+
+step-to-requires : tie.Need-step-to-requires
+step-to-requires c κs = omega (arith, fewer c .0)
 
 returns-4 : tie.Need-returns-4
 unfolding fillStep
-returns-4 c = simp (c .before .before .before .before .before .before .before .before .before .if1 .left, ← (c .before .before .before .before .before .before .before .before .byte-at .ensures), le-ltb _ _ (c .before .before .before .before .before .before .before .if2 .left), le-leb _ _ (c .before .before .before .before .before .before .before .if2 .left), ← (c .before .before .before .before .before .pace-fills .ensures), c .before .before .before .if3 .left, lt-leb _ _ (c .before .if4 .taken), lt-ltb _ _ (c .before .if4 .taken), ← (c .no-step4 .ensures))
-
-no-step-requires-5 : tie.Need-no-step-requires-5
-no-step-requires-5 c κs = search needs
-
-returns-5 : tie.Need-returns-5
-unfolding fillStep
-returns-5 c = simp (c .before .before .before .before .before .before .before .before .before .before .before .before .if1 .left, ← (c .before .before .before .before .before .before .before .before .before .before .before .byte-at .ensures), le-ltb _ _ (c .before .before .before .before .before .before .before .before .before .before .if2 .left), le-leb _ _ (c .before .before .before .before .before .before .before .before .before .before .if2 .left), ← (c .before .before .before .before .before .before .before .before .pace-fills .ensures), c .before .before .before .before .before .before .if3 .left, le-ltb _ _ (c .before .before .before .before .if4 .left), le-leb _ _ (c .before .before .before .before .if4 .left), lt-leb _ _ (c .before .if5 .taken), lt-ltb _ _ (c .before .if5 .taken), ← (c .no-step5 .ensures))
-
-step-to-requires : tie.Need-step-to-requires
-step-to-requires c κs = search needs
-
-returns-6 : tie.Need-returns-6
-unfolding fillStep
-returns-6 c = simp (c .before .before .before .before .before .before .before .before .before .before .before .before .if1 .left, ← (c .before .before .before .before .before .before .before .before .before .before .before .byte-at .ensures), le-ltb _ _ (c .before .before .before .before .before .before .before .before .before .before .if2 .left), le-leb _ _ (c .before .before .before .before .before .before .before .before .before .before .if2 .left), ← (c .before .before .before .before .before .before .before .before .pace-fills .ensures), c .before .before .before .before .before .before .if3 .left, le-ltb _ _ (c .before .before .before .before .if4 .left), le-leb _ _ (c .before .before .before .before .if4 .left), le-ltb _ _ (c .before .if5 .left), le-leb _ _ (c .before .if5 .left), ← (c .step-to .ensures))
+returns-4 c =
+    let e = c .before .before in
+    let k = e .before .before in
+    let b = k .before .before in
+    simp (b .before .before .if1 .left, ← (b .before .byte-at .ensures), le-ltb _ _ (b .if2 .left), ← (k .pace-fills .ensures), e .if3 .left, ← (c .step-to .ensures))
 
 pub fill-step-spec : {M : Type 1} → statement M
 fill-step-spec =
@@ -68,9 +73,6 @@ fill-step-spec =
     pace-fills-requires
     no-step-requires-3
     returns-3
-    no-step-requires-4
-    returns-4
-    no-step-requires-5
-    returns-5
+    sub-count
     step-to-requires
-    returns-6)
+    returns-4)

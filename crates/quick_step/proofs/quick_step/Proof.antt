@@ -1,20 +1,40 @@
+-- `quick_step` meets its contract. Assumes nothing.
+use Prim.Native.Nat.{_≤_}
 use borrow.Author.Needs.{needs}
+use lib.ListN.{length}
 use Rattle.current.proofs.Going.{current-bounds}
 use Rattle.quick_step.specs.Step.{stepOf}
 use Rattle.quick_step.proofs.quick_step.Statement.{statement}
 use Rattle.quick_step.proofs.quick_step.Tie as tie
 
+-- the part's limit stands in the file, and its count is not passed
+bounds : (c : tie.After-current-part) → (c .current-part .result .limit ≤ length (c .before .before .args .file .now)) × (c .current-part .result .«operation_index» ≤ c .current-part .result .«operation_count»)
+bounds c =
+    let a = c .before .before .args in
+    current-bounds (a .file .now) (a .header) (a .progress) (c .current-part .result) (a .cards .count) (c .current-part .ensures)
+
 current-part-requires : tie.Need-current-part-requires
 current-part-requires c κs = search needs
 
 plain-step-requires : tie.Need-plain-step-requires
-plain-step-requires c κs =
-    let a = c .before .before .args in
-    current-bounds (a .file .now) (a .header) (a .progress) _ (a .cards) (c .current-part .ensures)
+plain-step-requires c κs = bounds c
 
 returns : tie.Need-returns
 unfolding stepOf
-returns c = rw (← (c .before .current-part .ensures)) (c .plain-step .ensures)
+returns c =
+    let p = c .before in
+    rw (← (p .before .current-part .ensures), ← (p .plain-step .ensures), c .if1 .taken)
+
+fill-step-requires : tie.Need-fill-step-requires
+fill-step-requires c κs = bounds (c .before .before)
+
+returns-2 : tie.Need-returns-2
+unfolding stepOf
+returns-2 c =
+    let p = c .before .before in
+    rw (← (p .before .current-part .ensures), ← (p .plain-step .ensures), c .before .if1 .left) (c .fill-step .ensures)
 
 pub quick-step-spec : {M : Type 1} → statement M
-quick-step-spec = tie.close (tie.spec current-part-requires plain-step-requires returns)
+quick-step-spec =
+    tie.close
+    (tie.spec current-part-requires plain-step-requires returns fill-step-requires returns-2)

@@ -1,33 +1,47 @@
+-- `plan::call::plan_call` meets its contract. Assumes nothing.
+use mathlib.Core.Path.{ap, _∙_}
 use borrow.Author.Needs.{needs}
-use mathlib.Core.Path.{sym, ap, _∙_}
-use Rattle.current.proofs.Going.{current-bounds}
-use Rattle.fill_step.proofs.Planned.{fill-planned}
-use Rattle.plan.specs.Told.{planTold}
+use Rattle.format.specs.Checked.{refuse}
+use Rattle.format.specs.Pace.{planned}
+use Rattle.belongs.proofs.Belongs.{foreign-is}
+use Rattle.plan.proofs.Begins.{planned-foreign, planned-own}
 use Rattle.plan.proofs.call.plan_call.Statement.{statement}
 use Rattle.plan.proofs.call.plan_call.Tie as tie
 
-current-part-requires : tie.Need-current-part-requires
-current-part-requires c κs = search needs
-
-fill-step-requires : tie.Need-fill-step-requires
-fill-step-requires c κs =
-    let a = c .before .before .args in
-    current-bounds (a .file .now) (a .state .header) (a .state .progress) _ (a .state .cards .count) (c .current-part .ensures)
-
-stepped-requires : tie.Need-stepped-requires
-stepped-requires c κs = search needs
-
 returns : tie.Need-returns
-returns c =
-    let a = c .before .before .before .before .before .args in
-    let is = fill-planned (a .state) (a .file .now) (a .room) (c .before .before .before .current-part .result) (c .before .before .fill-step .result) (c .before .before .before .current-part .ensures) (c .before .if1 .taken) (c .before .before .fill-step .ensures) in
-    c .stepped .ensures ∙ ap (planTold (a .state)) (sym is)
+unfolding planned
+returns c = rw (c .if1 .taken)
 
-plan-operations-requires : tie.Need-plan-operations-requires
-plan-operations-requires c κs = search needs
+foreign-requires : tie.Need-foreign-requires
+foreign-requires c κs = search needs
+
+refused-plan-requires : tie.Need-refused-plan-requires
+refused-plan-requires c κs = search needs
 
 returns-2 : tie.Need-returns-2
-returns-2 c = c .plan-operations .ensures
+returns-2 c =
+    let a = c .before .before .before .before .before .before .before .args in
+    planned-foreign (a .state) (a .file .now) (a .room) (c .before .before .foreign .result) _ (c .before .before .before .before .if1 .left) (ap (refuse 25 0) (c .before .before .foreign .ensures) ∙ foreign-is (a .state) (a .file .now)) (c .before .if2 .taken) (c .refused-plan .ensures)
+
+plan-part-requires : tie.Need-plan-part-requires
+plan-part-requires c κs = search needs
+
+told-requires : tie.Need-told-requires
+told-requires c κs = search needs
+
+returns-3 : tie.Need-returns-3
+returns-3 c =
+    let a = c .before .before .before .before .before .before .before .before .args in
+    planned-own (a .state) (a .file .now) (a .room) (c .before .before .before .foreign .result) (c .before .plan-part .result) _ (c .before .before .before .before .before .if1 .left) (ap (refuse 25 0) (c .before .before .before .foreign .ensures) ∙ foreign-is (a .state) (a .file .now)) (c .before .before .if2 .left) (c .told .ensures) (c .before .plan-part .ensures)
 
 pub plan-call-spec : {M : Type 1} → statement M
-plan-call-spec = tie.close (tie.spec current-part-requires fill-step-requires stepped-requires returns plan-operations-requires returns-2)
+plan-call-spec =
+    tie.close
+    (tie.spec
+    returns
+    foreign-requires
+    refused-plan-requires
+    returns-2
+    plan-part-requires
+    told-requires
+    returns-3)

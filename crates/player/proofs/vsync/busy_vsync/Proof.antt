@@ -1,5 +1,5 @@
 -- `busy_vsync` meets its contract: a walk of its MIR, by hand. The state's borrow is opened and the whole state is read; the covered `quick_step` says whether
--- the call is taken. If it is, `store_writes` stores its records, six fields of the state are written, and the borrow is closed at the state that they make; else the borrow
+-- the call is taken. If it is, `store_step` stores its records, six fields of the state are written, and the borrow is closed at the state that they make; else the borrow
 -- is closed at the state as it was, and `planned_vsync` gets state and run for good. All that the proof knows of the callees is that each meets its contract.
 use mathlib.Core.Path.{_≡_, refl, ap, subst}
 use Prim.Native.Nat.{ℕ, _<_, _^_}
@@ -43,6 +43,7 @@ use denote.Triple.Clauses.{Lasts, ensured, lasts}
 use denote.Triple.Table.{entered, cited}
 use denote.Triple.Walked.{says, goes-gave-ref, goes-none-slice, goes-gave-slice, Walks, walked, walk-meets}
 use denote.Exit.{yes}
+use Rattle.format.specs.declared.card.CardTable.{CardTable}
 use Rattle.format.specs.declared.header.Header.{Header}
 use Rattle.format.specs.declared.operation.WriteRecord.{WriteRecord}
 use Rattle.format.specs.declared.player.Progress.{Progress}
@@ -64,11 +65,11 @@ use Rattle.quick_step.proofs.quick_step as qs
 use Rattle.quick_step.proofs.quick_step.Symbol as qs-def
 use Rattle.quick_step.proofs.quick_step.Symbol.{name as #quick-step}
 use Rattle.quick_step.proofs.quick_step.Met as qs-thm
-use Rattle.store_writes.specs.Stored.{writesStored}
-use Rattle.store_writes.proofs.store_writes as sw
-use Rattle.store_writes.proofs.store_writes.Symbol as sw-def
-use Rattle.store_writes.proofs.store_writes.Symbol.{name as #store-writes}
-use Rattle.store_writes.proofs.store_writes.Met as sw-thm
+use Rattle.store_step.specs.Stored.{stepStored}
+use Rattle.store_step.proofs.store_step as ss
+use Rattle.store_step.proofs.store_step.Symbol as ss-def
+use Rattle.store_step.proofs.store_step.Symbol.{name as #store-step}
+use Rattle.store_step.proofs.store_step.Met as ss-thm
 use Rattle.writes.proofs.Body.{head-of, tail, then-of}
 use Rattle.player.specs.declared.vsync.Vsync.{Vsync}
 use Rattle.player.proofs.Lent.{stayed, ref, bytes, slice, word, pref, eref, eslice, Lent, lentOf, x₂, x₃, s₂, s₃, args, vals, File, Run, Told, Advances, Post, to, exits, goes}
@@ -94,68 +95,59 @@ module _ {M : Type 1} (𝓤 : URA M) (H : Heap 𝓤) (A : Atoms 𝓤) (at-mem : 
   Decides = tripleOf 𝓤 H A qs.signature (qs.spec 𝓤 H A at-mem run)
 
   abbrev Stores : Contract 𝓤
-  Stores = tripleOf 𝓤 H A sw.signature (sw.spec 𝓤 H A at-mem run)
+  Stores = tripleOf 𝓤 H A ss.signature (ss.spec 𝓤 H A at-mem run)
 
-  said : (κ : Lft) (x : RefT (List ℕ)) (e : Header) (c : ℕ) (g : Progress) (n : ℕ) (r : Step) → ent 𝓤 (ensured 𝓤 H A qs.ended (qs.clauses 𝓤 H A at-mem run) (κ, tt) (x, (e, (c, (g, (n, tt))))) tt r) (fact 𝓤 (r ≡ stepOf (x .now) e c g n))
+  said : (κ : Lft) (x : RefT (List ℕ)) (e : Header) (c : CardTable) (g : Progress) (n : ℕ) (r : Step) → ent 𝓤 (ensured 𝓤 H A qs.ended (qs.clauses 𝓤 H A at-mem run) (κ, tt) (x, (e, (c, (g, (n, tt))))) tt r) (fact 𝓤 (r ≡ stepOf (x .now) e c g n))
   said κ x e c g n r = exE 𝓤 _ (λ ws. snd∗ 𝓤 (sem 𝓤 H A (lasts qs.ended (κ, tt) (x, (e, (c, (g, (n, tt))))) ws)) (fact 𝓤 (r ≡ stepOf (x .now) e c g n)))
 
 module _ {M : Type 1} (𝓤 : URA M) (H : Heap 𝓤) (A : Atoms 𝓤) (W : Given 𝓤 H A) (at-mem : Memory → SProp 𝓤) (run : Routine → Fun 𝓤) (x : Lent) (room₂ : Room u8 (length (x .bs))) (room₃ : Room T.the-row (length (x .ys))) where
   -- A STEP THAT IS TAKEN
 
   abbrev Stepped : Step → Type 0
-  Stepped r = r ≡ stepOf (x .bs) ((x .h) .header) ((x .h) .cards .count) ((x .h) .progress) (length (x .ys))
+  Stepped r = r ≡ stepOf (x .bs) ((x .h) .header) ((x .h) .cards) ((x .h) .progress) (length (x .ys))
 
   abbrev Wrote : Step → List WriteRecord → Type 0
-  Wrote r zs = zs ≡ writesStored (x .bs) ((x .h) .header .version) (r .from) (r .plain) (x .ys)
+  Wrote r zs = zs ≡ stepStored (x .bs) ((x .h) .header .version) r (x .ys)
 
   module _ (was : Is P.the-row (x .h) (LL.vals P.the-type P′.the-laws (x .h))) where
     -- what `quick_step`'s triple binds outside, and that the caller has what it asks
     abbrev to-step : Decides 𝓤 H A at-mem run .Ghost
-    to-step = ((((x .κ₂), tt), ((x .q₂), tt), tt, ((x₂ x), ((x .h) .header, ((x .h) .cards .count, ((x .h) .progress, (length (x .ys), tt))))), ((s₂ x) ∷ [], (LL.vals E.the-type E′.the-laws ((x .h) .header), (vint w64 ((x .h) .cards .count) ∷ [], (LL.vals G.the-type G′.the-laws ((x .h) .progress), (vint w64 (length (x .ys)) ∷ [], tt)))))), tt)
-
-    count-fits : (x .h) .cards .count < 2 ^ 64
-    count-fits = LL.owed K.the-type K′.the-laws ((x .h) .cards) _ (LL.owed P.the-type P′.the-laws (x .h) _ was .1 .0) .1 .0 .1
+    to-step = ((((x .κ₂), tt), ((x .q₂), tt), tt, ((x₂ x), ((x .h) .header, ((x .h) .cards, ((x .h) .progress, (length (x .ys), tt))))), ((s₂ x) ∷ [], (LL.vals E.the-type E′.the-laws ((x .h) .header), (LL.vals K.the-type K′.the-laws ((x .h) .cards), (LL.vals G.the-type G′.the-laws ((x .h) .progress), (vint w64 (length (x .ys)) ∷ [], tt)))))), tt)
 
     goes-step : ent 𝓤 (sep 𝓤 (A .lft (x .κ₂) (x .q₂)) (sem 𝓤 H A (File x))) (Decides 𝓤 H A at-mem run .pre to-step)
     goes-step =
-        qed W (‵ (flft (x .κ₂) (x .q₂)) ∷ ‵ (File x) ∷ []) ∵ nothing ! $ owned ! usize (Is usize) (uint-makes 𝓤 H A W w64) (length (x .ys)) _ (refl, room₃ .0) $ fjoin ! $ owned ! G.the-row (Is G.the-row) ((LL.makes G.the-type G′.the-plain) 𝓤 H A) ((x .h) .progress) _ (LL.owed P.the-type P′.the-laws (x .h) _ was .1 .1 .1 .0) $ fjoin ! $ owned ! usize (Is usize) (uint-makes 𝓤 H A W w64) ((x .h) .cards .count) _ (refl, count-fits) $ fjoin ! $ owned ! E.the-row (Is E.the-row) ((LL.makes E.the-type E′.the-plain) 𝓤 H A) ((x .h) .header) _ (LL.owed P.the-type P′.the-laws (x .h) _ was .0) $ fjoin ! $ move ! (2 ∷ 0 ∷ []) $ fjoin ! $
+        qed W (‵ (flft (x .κ₂) (x .q₂)) ∷ ‵ (File x) ∷ []) ∵ nothing ! $ owned ! usize (Is usize) (uint-makes 𝓤 H A W w64) (length (x .ys)) _ (refl, room₃ .0) $ fjoin ! $ owned ! G.the-row (Is G.the-row) ((LL.makes G.the-type G′.the-plain) 𝓤 H A) ((x .h) .progress) _ (LL.owed P.the-type P′.the-laws (x .h) _ was .1 .1 .1 .0) $ fjoin ! $ owned ! K.the-row (Is K.the-row) ((LL.makes K.the-type K′.the-plain) 𝓤 H A) ((x .h) .cards) _ (LL.owed P.the-type P′.the-laws (x .h) _ was .1 .0) $ fjoin ! $ owned ! E.the-row (Is E.the-row) ((LL.makes E.the-type E′.the-plain) 𝓤 H A) ((x .h) .header) _ (LL.owed P.the-type P′.the-laws (x .h) _ was .0) $ fjoin ! $ move ! (2 ∷ 0 ∷ []) $ fjoin ! $
         nothing ! $ move ! (2 ∷ 0 ∷ []) $ join ! $ nothing ! $ move ! (1 ∷ 2 ∷ 0 ∷ []) $ join ! $ join ! $ done !
 
     module _ (r : Step) (is : Is Q.the-row r (LL.vals Q.the-type Q′.the-laws r)) where
-      from-fits : r .from < 2 ^ 64
-      from-fits = LL.owed Q.the-type Q′.the-laws r _ is .1 .0 .1
-
-      plain-fits : r .plain < 2 ^ 32
-      plain-fits = LL.owed Q.the-type Q′.the-laws r _ is .1 .1 .0 .1
-
       version-fits : (x .h) .header .version < 2 ^ 8
       version-fits = LL.owed E.the-type E′.the-laws ((x .h) .header) _ (LL.owed P.the-type P′.the-laws (x .h) _ was .0) .0 .1
 
       -- what it tells, and the state that its fields make, are values of their types
       told-is : Is Y.the-row (stepTold r) (LL.vals Y.the-type Y′.the-laws (stepTold r))
-      told-is = LL.owes Y.the-type Y′.the-laws (stepTold r) ((refl, lit< tt), (LL.owed Q.the-type Q′.the-laws r _ is .1 .1 .1 .1 .0, (LL.owed Q.the-type Q′.the-laws r _ is .1 .1 .1 .1 .1 .0, tt)))
+      told-is = LL.owes Y.the-type Y′.the-laws (stepTold r) ((refl, lit< tt), (LL.owed Q.the-type Q′.the-laws r _ is .1 .1 .1 .1 .1 .0, (LL.owed Q.the-type Q′.the-laws r _ is .1 .1 .1 .1 .1 .1 .0, tt)))
 
       progress-is : Is G.the-row (steppedOn (x .h) r .progress) (LL.vals G.the-type G′.the-laws (steppedOn (x .h) r .progress))
       progress-is =
           let old = LL.owed G.the-type G′.the-laws ((x .h) .progress) _ (LL.owed P.the-type P′.the-laws (x .h) _ was .1 .1 .1 .0) in
-          let new = LL.owed Q.the-type Q′.the-laws r _ is .1 .1 .1 .1 .1 .1 in
+          let new = LL.owed Q.the-type Q′.the-laws r _ is .1 .1 .1 .1 .1 .1 .1 in
           LL.owes G.the-type G′.the-laws (steppedOn (x .h) r .progress) (new .0, (new .1 .0, (new .1 .1 .0, (new .1 .1 .1 .0, (new .1 .1 .1 .1 .0, (new .1 .1 .1 .1 .1 .0, (old .1 .1 .1 .1 .1 .1 .0, (old .1 .1 .1 .1 .1 .1 .1 .0, (old .1 .1 .1 .1 .1 .1 .1 .1 .0, tt)))))))))
 
       next-is : Is P.the-row (steppedOn (x .h) r) (LL.vals P.the-type P′.the-laws (steppedOn (x .h) r))
       next-is = LL.owes P.the-type P′.the-laws (steppedOn (x .h) r) (LL.owed P.the-type P′.the-laws (x .h) _ was .0, (LL.owed P.the-type P′.the-laws (x .h) _ was .1 .0, (LL.owed P.the-type P′.the-laws (x .h) _ was .1 .1 .0, (progress-is, tt))))
 
-      -- what `store_writes`' triple binds outside
+      -- what `store_step`'s triple binds outside
       abbrev to-store : Stores 𝓤 H A at-mem run .Ghost
-      to-store = ((((x .κ₃), ((x .κ₂), tt)), ((x .q₃), ((x .q₂), tt)), tt, ((x₃ x), ((x₂ x), ((x .h) .header .version, (r .from, (r .plain, tt))))), ((s₃ x) ∷ [], ((s₂ x) ∷ [], (vint w8 ((x .h) .header .version) ∷ [], (vint w64 (r .from) ∷ [], (vint w32 (r .plain) ∷ [], tt)))))), tt)
+      to-store = ((((x .κ₃), ((x .κ₂), tt)), ((x .q₃), ((x .q₂), tt)), tt, ((x₃ x), ((x₂ x), ((x .h) .header .version, (r, tt)))), ((s₃ x) ∷ [], ((s₂ x) ∷ [], (vint w8 ((x .h) .header .version) ∷ [], (LL.vals Q.the-type Q′.the-laws r, tt))))), tt)
 
       goes-store : ent 𝓤 (sep 𝓤 (A .lft (x .κ₃) (x .q₃)) (sep 𝓤 (A .lft (x .κ₂) (x .q₂)) (sep 𝓤 (sem 𝓤 H A (Run x)) (sem 𝓤 H A (File x))))) (Stores 𝓤 H A at-mem run .pre to-store)
       goes-store =
           qed W (‵ (flft (x .κ₃) (x .q₃)) ∷ ‵ (flft (x .κ₂) (x .q₂)) ∷ (‵ (Run x) ⊛ ‵ (File x)) ∷ []) ∵ move ! (2 ∷ []) $ split ! $
           -- [run; file; run's token; file's token]
-          nothing ! $ owned ! u32 (Is u32) (uint-makes 𝓤 H A W w32) (r .plain) _ (refl, plain-fits) $ fjoin ! $ owned ! usize (Is usize) (uint-makes 𝓤 H A W w64) (r .from) _ (refl, from-fits) $ fjoin ! $ owned ! u8 (Is u8) (uint-makes 𝓤 H A W w8) ((x .h) .header .version) _ (refl, version-fits) $ fjoin ! $ move ! (2 ∷ 0 ∷ []) $ fjoin ! $ move ! (1 ∷ 0 ∷ []) $ fjoin ! $
+          nothing ! $ owned ! Q.the-row (Is Q.the-row) ((LL.makes Q.the-type Q′.the-plain) 𝓤 H A) r _ is $ fjoin ! $ owned ! u8 (Is u8) (uint-makes 𝓤 H A W w8) ((x .h) .header .version) _ (refl, version-fits) $ fjoin ! $ move ! (2 ∷ 0 ∷ []) $ fjoin ! $ move ! (1 ∷ 0 ∷ []) $ fjoin ! $
           nothing ! $ move ! (3 ∷ 0 ∷ []) $ join ! $ move ! (2 ∷ 0 ∷ []) $ join ! $ nothing ! $ move ! (1 ∷ 2 ∷ 0 ∷ []) $ join ! $ join ! $ done !
 
-  module _ (C : Calls 𝓤 H) (Λ : Loops 𝓤 H) (fm : FmC 𝓤 H (W .laws) C) (known-step : Triple 𝓤 (C #quick-step) (Decides 𝓤 H A at-mem run)) (known-store : Triple 𝓤 (C #store-writes) (Stores 𝓤 H A at-mem run)) (known : Triple 𝓤 (C #player·planned-vsync) (Advances 𝓤 H A at-mem run)) where
+  module _ (C : Calls 𝓤 H) (Λ : Loops 𝓤 H) (fm : FmC 𝓤 H (W .laws) C) (known-step : Triple 𝓤 (C #quick-step) (Decides 𝓤 H A at-mem run)) (known-store : Triple 𝓤 (C #store-step) (Stores 𝓤 H A at-mem run)) (known : Triple 𝓤 (C #player·planned-vsync) (Advances 𝓤 H A at-mem run)) where
     module _ (l₀ l₁ l₂ l₃ l₄ l₅ l₆ l₇ l₈ l₉ l₁₀ l₁₁ l₁₂ l₁₃ : ℕ) where
       abbrev En : Env 𝓤 H
       En = (Y′.mir, l₀) ∷ (ref, l₁) ∷ (bytes, l₂) ∷ (slice, l₃) ∷ (P′.mir, l₄) ∷ (Q′.mir, l₅) ∷ (word, l₆) ∷ (tyBool, l₇) ∷ (tyUnit, l₈) ∷ (eref, l₉) ∷ (eslice, l₁₀) ∷ (pref, l₁₁) ∷ (eref, l₁₂) ∷ (eslice, l₁₃) ∷ []
@@ -180,13 +172,13 @@ module _ {M : Type 1} (𝓤 : URA M) (H : Heap 𝓤) (A : Atoms 𝓤) (W : Given
       -- the fields are written, and the function returns
       ends : (r : Step) (zs : List WriteRecord) → Stepped r → r .taken ≡ true → (was : Is P.the-row (x .h) (LL.vals P.the-type P′.the-laws (x .h))) → (is : Is Q.the-row r (LL.vals Q.the-type Q′.the-laws r)) → Wrote r zs → length zs ≡ length (x .ys) → (z : After 𝓤 H) → post 𝓤 H z returnsᴼ ≡ atReturn 𝓤 H En (Post 𝓤 H A at-mem run x) returnsᴼ → Sq W (Stored r zs) (runs C Λ En (tail (tail (tail (then-of (head-of code.Mir.t-5))))) z)
       ends r zs e taken was is wrote l z at-end =
-          assigns ! (of-opd ! (load ! (from ! (fld ! refl (stop !))) (look-in ! 24 (sub ! 6 refl (whole !))))) (from ! (hop ! (look ! 32 refl) (fld ! refl (fld ! refl (stop !))))) (store-in ! 0 (sub ! 0 refl (sub ! 3 refl (whole !))) (tt, record { fits = LL.owed Q.the-type Q′.the-laws r _ is .1 .1 .1 .1 .1 .1 .0 .1 })) $
-          assigns ! (of-opd ! (load ! (from ! (fld ! refl (stop !))) (look-in ! 24 (sub ! 7 refl (whole !))))) (from ! (hop ! (look ! 32 refl) (fld ! refl (fld ! refl (stop !))))) (store-in ! 0 (sub ! 1 refl (sub ! 3 refl (whole !))) (tt, record { fits = LL.owed Q.the-type Q′.the-laws r _ is .1 .1 .1 .1 .1 .1 .1 .0 .1 })) $
-          assigns ! (of-opd ! (load ! (from ! (fld ! refl (stop !))) (look-in ! 24 (sub ! 8 refl (whole !))))) (from ! (hop ! (look ! 32 refl) (fld ! refl (fld ! refl (stop !))))) (store-in ! 0 (sub ! 2 refl (sub ! 3 refl (whole !))) (tt, record { fits = LL.owed Q.the-type Q′.the-laws r _ is .1 .1 .1 .1 .1 .1 .1 .1 .0 .1 })) $
-          assigns ! (of-opd ! (load ! (from ! (fld ! refl (stop !))) (look-in ! 24 (sub ! 9 refl (whole !))))) (from ! (hop ! (look ! 32 refl) (fld ! refl (fld ! refl (stop !))))) (store-in ! 0 (sub ! 3 refl (sub ! 3 refl (whole !))) (tt, record { fits = LL.owed Q.the-type Q′.the-laws r _ is .1 .1 .1 .1 .1 .1 .1 .1 .1 .0 .1 })) $
-          assigns ! (of-opd ! (load ! (from ! (fld ! refl (stop !))) (look-in ! 24 (sub ! 10 refl (whole !))))) (from ! (hop ! (look ! 32 refl) (fld ! refl (fld ! refl (stop !))))) (store-in ! 0 (sub ! 4 refl (sub ! 3 refl (whole !))) (tt, record { fits = LL.owed Q.the-type Q′.the-laws r _ is .1 .1 .1 .1 .1 .1 .1 .1 .1 .1 .0 .1 })) $
-          assigns ! (of-opd ! (load ! (from ! (fld ! refl (stop !))) (look-in ! 24 (sub ! 11 refl (whole !))))) (from ! (hop ! (look ! 32 refl) (fld ! refl (fld ! refl (stop !))))) (store-in ! 0 (sub ! 5 refl (sub ! 3 refl (whole !))) (tt, record { fits = LL.owed Q.the-type Q′.the-laws r _ is .1 .1 .1 .1 .1 .1 .1 .1 .1 .1 .1 .0 .1 })) $
-          assigns ! (agg ! (and-then ! (lit ! tt) (and-then ! (load ! (from ! (fld ! refl (stop !))) (look-in ! 24 (sub ! 4 refl (whole !)))) (and-then ! (load ! (from ! (fld ! refl (stop !))) (look-in ! 24 (sub ! 5 refl (whole !)))) (no-more !))))) (from ! (stop !)) (init ! 34 refl (LL.lawful Y.the-type Y′.the-laws 𝓤 H A W .typed (stepTold r) _ (told-is was r is) .0)) $
+          assigns ! (of-opd ! (load ! (from ! (fld ! refl (stop !))) (look-in ! 24 (sub ! 7 refl (whole !))))) (from ! (hop ! (look ! 32 refl) (fld ! refl (fld ! refl (stop !))))) (store-in ! 0 (sub ! 0 refl (sub ! 3 refl (whole !))) (tt, record { fits = LL.owed Q.the-type Q′.the-laws r _ is .1 .1 .1 .1 .1 .1 .1 .0 .1 })) $
+          assigns ! (of-opd ! (load ! (from ! (fld ! refl (stop !))) (look-in ! 24 (sub ! 8 refl (whole !))))) (from ! (hop ! (look ! 32 refl) (fld ! refl (fld ! refl (stop !))))) (store-in ! 0 (sub ! 1 refl (sub ! 3 refl (whole !))) (tt, record { fits = LL.owed Q.the-type Q′.the-laws r _ is .1 .1 .1 .1 .1 .1 .1 .1 .0 .1 })) $
+          assigns ! (of-opd ! (load ! (from ! (fld ! refl (stop !))) (look-in ! 24 (sub ! 9 refl (whole !))))) (from ! (hop ! (look ! 32 refl) (fld ! refl (fld ! refl (stop !))))) (store-in ! 0 (sub ! 2 refl (sub ! 3 refl (whole !))) (tt, record { fits = LL.owed Q.the-type Q′.the-laws r _ is .1 .1 .1 .1 .1 .1 .1 .1 .1 .0 .1 })) $
+          assigns ! (of-opd ! (load ! (from ! (fld ! refl (stop !))) (look-in ! 24 (sub ! 10 refl (whole !))))) (from ! (hop ! (look ! 32 refl) (fld ! refl (fld ! refl (stop !))))) (store-in ! 0 (sub ! 3 refl (sub ! 3 refl (whole !))) (tt, record { fits = LL.owed Q.the-type Q′.the-laws r _ is .1 .1 .1 .1 .1 .1 .1 .1 .1 .1 .0 .1 })) $
+          assigns ! (of-opd ! (load ! (from ! (fld ! refl (stop !))) (look-in ! 24 (sub ! 11 refl (whole !))))) (from ! (hop ! (look ! 32 refl) (fld ! refl (fld ! refl (stop !))))) (store-in ! 0 (sub ! 4 refl (sub ! 3 refl (whole !))) (tt, record { fits = LL.owed Q.the-type Q′.the-laws r _ is .1 .1 .1 .1 .1 .1 .1 .1 .1 .1 .1 .0 .1 })) $
+          assigns ! (of-opd ! (load ! (from ! (fld ! refl (stop !))) (look-in ! 24 (sub ! 12 refl (whole !))))) (from ! (hop ! (look ! 32 refl) (fld ! refl (fld ! refl (stop !))))) (store-in ! 0 (sub ! 5 refl (sub ! 3 refl (whole !))) (tt, record { fits = LL.owed Q.the-type Q′.the-laws r _ is .1 .1 .1 .1 .1 .1 .1 .1 .1 .1 .1 .1 .0 .1 })) $
+          assigns ! (agg ! (and-then ! (lit ! tt) (and-then ! (load ! (from ! (fld ! refl (stop !))) (look-in ! 24 (sub ! 5 refl (whole !)))) (and-then ! (load ! (from ! (fld ! refl (stop !))) (look-in ! 24 (sub ! 6 refl (whole !)))) (no-more !))))) (from ! (stop !)) (init ! 34 refl (LL.lawful Y.the-type Y′.the-laws 𝓤 H A W .typed (stepTold r) _ (told-is was r is) .0)) $
           owned ! P.the-row (Is P.the-row) ((LL.makes P.the-type P′.the-plain) 𝓤 H A) (steppedOn (x .h) r) _ (next-is was r is) $ move ! (1 ∷ 0 ∷ []) $ closes ! tt P.the-row (steppedOn (x .h) r) (LL.vals P.the-type P′.the-laws (steppedOn (x .h) r)) (x .b) (x .o) $
           -- [obs; the borrow; the state's token; file's token; run's token; the last run; file; the locals]
           returns-within ! (Post 𝓤 H A at-mem run x) at-end (look ! 33 refl) $ forget ! 33 refl $ forget ! 31 refl $ forget ! 29 refl $ forget ! 27 refl $ forget ! 25 refl $ forget ! 23 refl $ forget ! 21 refl $ forget ! 19 refl $ move ! (33 ∷ 34 ∷ []) $ free1 ! $ move ! (31 ∷ 32 ∷ []) $ free1 ! $ move ! (29 ∷ 30 ∷ []) $ free1 ! $ move ! (27 ∷ 28 ∷ []) $ free1 ! $ move ! (25 ∷ 26 ∷ []) $ free1 ! $ move ! (23 ∷ 24 ∷ []) $ free1 ! $ move ! (21 ∷ 22 ∷ []) $ free1 ! $ move ! (19 ∷ 20 ∷ []) $ free1 ! $ move ! (17 ∷ 18 ∷ []) $ free1 ! $ move ! (15 ∷ 16 ∷ []) $ free1 ! $ move ! (13 ∷ 14 ∷ []) $ free1 ! $ move ! (11 ∷ 12 ∷ []) $ free1 ! $ move ! (9 ∷ 10 ∷ []) $ free1 ! $ move ! (7 ∷ 8 ∷ []) $ free1 ! $ free0 ! $
@@ -201,9 +193,9 @@ module _ {M : Type 1} (𝓤 : URA M) (H : Heap 𝓤) (A : Atoms 𝓤) (W : Given
           move ! (7 ∷ []) $ use1 W (‵ (File x) ⊛ ‵ (File x)) (shr-slice-copy 𝓤 H A W (named 1) (x .κ₂) u8 .twice (x₂ x) ((s₂ x) ∷ [])) $ split ! $ move ! (8 ∷ 0 ∷ []) $ join ! $ move ! (7 ∷ 6 ∷ 0 ∷ []) $
           use3 W (raw (Stores 𝓤 H A at-mem run .pre (to-store was r is))) (goes-store was r is) $
           -- [the callee's need; file; the state's cell; the open borrow; obs; auth; the locals]
-          calls-at ! fm (Stores 𝓤 H A at-mem run) known-store (to-store was r is) (and-then ! (load ! (from ! (stop !)) (look ! 12 refl)) (and-then ! (load ! (from ! (stop !)) (look ! 28 refl)) (and-then ! (load ! (from ! (fld ! refl (fld ! refl (stop !)))) (look-in ! 24 (sub ! 0 refl (sub ! 0 refl (whole !))))) (and-then ! (load ! (from ! (fld ! refl (stop !))) (look-in ! 22 (sub ! 1 refl (whole !)))) (and-then ! (load ! (from ! (fld ! refl (stop !))) (look-in ! 22 (sub ! 2 refl (whole !)))) (no-more !)))))) (λ v.
-          use1 W (later (some (λ (u : Unit {0}). ((‵ (flft (x .κ₃) (x .q₃)) ⊛ ‵ (flft (x .κ₂) (x .q₂)) ⊛ ‵ ftrue) ⊛ ‵ (Nothing .own u (v ∷ []))) ⊛ raw (ensured 𝓤 H A sw.ended (sw.clauses 𝓤 H A at-mem run) ((x .κ₃), ((x .κ₂), tt)) (to-store was r is .0 .3) tt u)))) (id⊢ 𝓤 _) $ await ! tt $ pick ! (λ u.
-          split ! $ move ! (1 ∷ []) $ use1 W (some (λ (zs : Lasts sw.ended ((x .κ₃), ((x .κ₂), tt)) (to-store was r is .0 .3)). ‵ (lasts sw.ended ((x .κ₃), ((x .κ₂), tt)) (to-store was r is .0 .3) zs) ⊛ raw (fact 𝓤 (Wrote r (zs .0))))) (id⊢ 𝓤 _) $ pick ! (λ zs.
+          calls-at ! fm (Stores 𝓤 H A at-mem run) known-store (to-store was r is) (and-then ! (load ! (from ! (stop !)) (look ! 12 refl)) (and-then ! (load ! (from ! (stop !)) (look ! 28 refl)) (and-then ! (load ! (from ! (fld ! refl (fld ! refl (stop !)))) (look-in ! 24 (sub ! 0 refl (sub ! 0 refl (whole !))))) (and-then ! (load ! (from ! (stop !)) (look ! 22 refl)) (no-more !))))) (λ v.
+          use1 W (later (some (λ (u : Unit {0}). ((‵ (flft (x .κ₃) (x .q₃)) ⊛ ‵ (flft (x .κ₂) (x .q₂)) ⊛ ‵ ftrue) ⊛ ‵ (Nothing .own u (v ∷ []))) ⊛ raw (ensured 𝓤 H A ss.ended (ss.clauses 𝓤 H A at-mem run) ((x .κ₃), ((x .κ₂), tt)) (to-store was r is .0 .3) tt u)))) (id⊢ 𝓤 _) $ await ! tt $ pick ! (λ u.
+          split ! $ move ! (1 ∷ []) $ use1 W (some (λ (zs : Lasts ss.ended ((x .κ₃), ((x .κ₂), tt)) (to-store was r is .0 .3)). ‵ (lasts ss.ended ((x .κ₃), ((x .κ₂), tt)) (to-store was r is .0 .3) zs) ⊛ raw (fact 𝓤 (Wrote r (zs .0))))) (id⊢ 𝓤 _) $ pick ! (λ zs.
           split ! $ move ! (1 ∷ []) $ heard ! (Wrote r (zs .0)) (λ wrote. fsplit ! $ fsplit ! $ move ! (1 ∷ []) $ feqL ! (λ l.
           -- [what says the last list; the rest of that; the tokens and the result; file; the state's four; the locals]
           move ! (2 ∷ []) $ split ! $ move ! (1 ∷ []) $ peeks ! Nothing (Is Nothing) (shows 𝓤 H A Nothing) u (v ∷ []) (λ is₂. drop ! $
@@ -242,9 +234,9 @@ module _ {M : Type 1} (𝓤 : URA M) (H : Heap 𝓤) (A : Atoms 𝓤) (W : Given
           assigns ! (of-opd ! (load ! (from ! (fld ! refl (stop !))) (look-in ! 28 (sub ! 1 refl (whole !))))) (from ! (stop !)) (init ! 22 refl (tt, record { fits = room₃ .0 })) $
           move ! (7 ∷ []) $ use1 W (‵ (File x) ⊛ ‵ (File x)) (shr-slice-copy 𝓤 H A W (named 1) (x .κ₂) u8 .twice (x₂ x) ((s₂ x) ∷ [])) $ split ! $ move ! (6 ∷ 0 ∷ []) $
           use2 W (raw (Decides 𝓤 H A at-mem run .pre (to-step was))) (goes-step was) $
-          calls-at ! fm (Decides 𝓤 H A at-mem run) known-step (to-step was) (and-then ! (load ! (from ! (stop !)) (look ! 30 refl)) (and-then ! (load ! (from ! (fld ! refl (stop !))) (look-in ! 26 (sub ! 0 refl (whole !)))) (and-then ! (load ! (from ! (fld ! refl (fld ! refl (stop !)))) (look-in ! 26 (sub ! 1 refl (sub ! 1 refl (whole !))))) (and-then ! (load ! (from ! (fld ! refl (stop !))) (look-in ! 26 (sub ! 3 refl (whole !)))) (and-then ! (load ! (from ! (stop !)) (look ! 22 refl)) (no-more !)))))) (λ v.
+          calls-at ! fm (Decides 𝓤 H A at-mem run) known-step (to-step was) (and-then ! (load ! (from ! (stop !)) (look ! 30 refl)) (and-then ! (load ! (from ! (fld ! refl (stop !))) (look-in ! 26 (sub ! 0 refl (whole !)))) (and-then ! (load ! (from ! (fld ! refl (stop !))) (look-in ! 26 (sub ! 1 refl (whole !)))) (and-then ! (load ! (from ! (fld ! refl (stop !))) (look-in ! 26 (sub ! 3 refl (whole !)))) (and-then ! (load ! (from ! (stop !)) (look ! 22 refl)) (no-more !)))))) (λ v.
           use1 W (later (some (λ (r : Step). ((‵ (flft (x .κ₂) (x .q₂)) ⊛ ‵ ftrue) ⊛ ‵ (Q.the-row .own r (v ∷ []))) ⊛ raw (ensured 𝓤 H A qs.ended (qs.clauses 𝓤 H A at-mem run) ((x .κ₂), tt) (to-step was .0 .3) tt r)))) (id⊢ 𝓤 _) $ await ! tt $ pick ! (λ r.
-          split ! $ move ! (1 ∷ []) $ use1 W (raw (fact 𝓤 (Stepped r))) (said 𝓤 H A at-mem run (x .κ₂) (x₂ x) ((x .h) .header) ((x .h) .cards .count) ((x .h) .progress) (length (x .ys)) r) $ heard ! (Stepped r) (λ e. split ! $ move ! (1 ∷ []) $
+          split ! $ move ! (1 ∷ []) $ use1 W (raw (fact 𝓤 (Stepped r))) (said 𝓤 H A at-mem run (x .κ₂) (x₂ x) ((x .h) .header) ((x .h) .cards) ((x .h) .progress) (length (x .ys)) r) $ heard ! (Stepped r) (λ e. split ! $ move ! (1 ∷ []) $
           peeks ! Q.the-row (Is Q.the-row) (shows 𝓤 H A Q.the-row) r (v ∷ []) (λ is. drop ! $
           land ! (from ! (stop !)) (init ! 24 refl (LL.lawful Q.the-type Q′.the-laws 𝓤 H A W .typed r _ is .0)) $ rewrite ! 24 (λ (u : Val). ‵ (fat fullShare Q′.mir l₅ 0 u)) (ap only (LL.tells Q.the-type Q′.the-laws r _ is)) refl $
           split ! $ keep ! (3 ∷ 4 ∷ 5 ∷ 6 ∷ 0 ∷ 7 ∷ 8 ∷ 2 ∷ 9 ∷ 10 ∷ 11 ∷ 12 ∷ 13 ∷ 14 ∷ 15 ∷ 16 ∷ 17 ∷ 18 ∷ 19 ∷ 20 ∷ 21 ∷ 22 ∷ 23 ∷ 24 ∷ 25 ∷ 26 ∷ 27 ∷ 28 ∷ 29 ∷ 30 ∷ 31 ∷ 32 ∷ 33 ∷ 34 ∷ 35 ∷ 36 ∷ []) $
@@ -269,12 +261,12 @@ module _ {M : Type 1} (𝓤 : URA M) (H : Heap 𝓤) (A : Atoms 𝓤) (W : Given
         decides l₀ l₁ l₂ l₃ l₄ l₅ l₆ l₇ l₈ l₉ l₁₀ l₁₁ l₁₂ l₁₃ was))))))))))))))))
 
 module _ {M : Type 1} (𝓤 : URA M) (H : Heap 𝓤) (A : Atoms 𝓤) (W : Given 𝓤 H A) (at-mem : Memory → SProp 𝓤) (run : Routine → Fun 𝓤) where
-  busy-vsync-walks : (C : Calls 𝓤 H) (Λ : Loops 𝓤 H) → FmC 𝓤 H (W .laws) C → Triple 𝓤 (C #quick-step) (Decides 𝓤 H A at-mem run) → Triple 𝓤 (C #store-writes) (Stores 𝓤 H A at-mem run) → Triple 𝓤 (C #player·planned-vsync) (Advances 𝓤 H A at-mem run) → Walks 𝓤 H A f.ended stayed (WpFn 𝓤 H C Λ code.function) (f.clauses 𝓤 H A at-mem run)
+  busy-vsync-walks : (C : Calls 𝓤 H) (Λ : Loops 𝓤 H) → FmC 𝓤 H (W .laws) C → Triple 𝓤 (C #quick-step) (Decides 𝓤 H A at-mem run) → Triple 𝓤 (C #store-step) (Stores 𝓤 H A at-mem run) → Triple 𝓤 (C #player·planned-vsync) (Advances 𝓤 H A at-mem run) → Walks 𝓤 H A f.ended stayed (WpFn 𝓤 H C Λ code.function) (f.clauses 𝓤 H A at-mem run)
   busy-vsync-walks C Λ fm known-step known-store known = walked 𝓤 H A f.ended stayed (f.clauses 𝓤 H A at-mem run) (WpFn 𝓤 H C Λ code.function) (λ κs. (ptr-vals, (slice-vals, (slice-vals, tt))))
       (λ κs. (mut-tells (named 0) (κs .0) P.the-row, (shr-slice-tells (named 1) (κs .1 .0) u8, (mut-slice-tells (named 2) (κs .1 .1 .0) T.the-row, tt))))
       (λ κs qs bounds a _ are. via 𝓤 _ (fst∗ 𝓤 _ (emp 𝓤)) (walk 𝓤 H A W at-mem run (lentOf κs qs a) (are .1 .0 .0 .1) (are .1 .1 .0 .0 .1) C Λ fm known-step known-store known))
 
-busy-vsync-meets : {M : Type 1} (𝓤 : URA M) (H : Heap 𝓤) (A : Atoms 𝓤) → Given 𝓤 H A → (at-mem : Memory → SProp 𝓤) (run : Routine → Fun 𝓤) (𝓣 : Tables 𝓤 H) → Triple 𝓤 (𝓣 .C #quick-step) (Decides 𝓤 H A at-mem run) → Triple 𝓤 (𝓣 .C #store-writes) (Stores 𝓤 H A at-mem run) → Triple 𝓤 (𝓣 .C #player·planned-vsync) (Advances 𝓤 H A at-mem run)
+busy-vsync-meets : {M : Type 1} (𝓤 : URA M) (H : Heap 𝓤) (A : Atoms 𝓤) → Given 𝓤 H A → (at-mem : Memory → SProp 𝓤) (run : Routine → Fun 𝓤) (𝓣 : Tables 𝓤 H) → Triple 𝓤 (𝓣 .C #quick-step) (Decides 𝓤 H A at-mem run) → Triple 𝓤 (𝓣 .C #store-step) (Stores 𝓤 H A at-mem run) → Triple 𝓤 (𝓣 .C #player·planned-vsync) (Advances 𝓤 H A at-mem run)
     → Meets 𝓤 H A f.signature (WpFn 𝓤 H (𝓣 .C) (𝓣 .Λ) code.function) (f.spec 𝓤 H A at-mem run)
 busy-vsync-meets 𝓤 H A W at-mem run 𝓣 known-step known-store known =
     walk-meets 𝓤 H A f.ended stayed W (goes-gave-ref 𝓤 H A W 3 0 tt (plain (λ _. P.the-row)), (goes-none-slice 𝓤 H A W 3 (1 ∷ []) tt (plain (λ _. u8)) yes, (goes-gave-slice 𝓤 H A W 3 2 tt (plain (λ _. T.the-row)), tt))) (f.clauses 𝓤 H A at-mem run)
@@ -287,5 +279,5 @@ busy-vsync-spec 𝓤 H 𝓜 𝓖 𝓡 =
     (tables 𝓤 H 𝓜 𝓡 code.env .C) (tables 𝓤 H 𝓜 𝓡 code.env .Λ) #player·busy-vsync code.function (code.unfolded 𝓤 H 𝓜 𝓡)
     (busy-vsync-meets 𝓤 H (𝓖 .A) (givenOf 𝓤 H 𝓜 𝓖) (𝓜 .mem) (𝓡 .run) (tablesOf 𝓤 H 𝓜 (tables 𝓤 H 𝓜 𝓡 code.env))
     (cited 𝓤 H (Decides 𝓤 H (𝓖 .A) (𝓜 .mem) (𝓡 .run)) 𝓜 𝓡 code.env #quick-step qs-def.routine code.calls-quick-step·quick-step (qs-thm.met 𝓤 H 𝓜 𝓖 𝓡))
-    (cited 𝓤 H (Stores 𝓤 H (𝓖 .A) (𝓜 .mem) (𝓡 .run)) 𝓜 𝓡 code.env #store-writes sw-def.routine code.calls-store-writes·store-writes (sw-thm.met 𝓤 H 𝓜 𝓖 𝓡))
+    (cited 𝓤 H (Stores 𝓤 H (𝓖 .A) (𝓜 .mem) (𝓡 .run)) 𝓜 𝓡 code.env #store-step ss-def.routine code.calls-store-step·store-step (ss-thm.met 𝓤 H 𝓜 𝓖 𝓡))
     (cited 𝓤 H (Advances 𝓤 H (𝓖 .A) (𝓜 .mem) (𝓡 .run)) 𝓜 𝓡 code.env #player·planned-vsync pv-def.routine code.calls-player·vsync·planned-vsync (pv-thm.met 𝓤 H 𝓜 𝓖 𝓡)))

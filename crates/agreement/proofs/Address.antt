@@ -15,15 +15,14 @@ use Rattle.targets.specs.declared.Target.the-variants.{Core, Pcm, Bank, Slot, S
 use Rattle.format.specs.Card.{oneCardWrong}
 use Rattle.format.specs.Checked.{ok}
 use Rattle.format.specs.Operation.{Setting, Item, writeRules, fillRules, allowed, itemAt}
-use Rattle.format.specs.Pace.{countOf}
+use Rattle.format.specs.Pace.{countOf, addressOf}
 use Rattle.format.specs.Player.{settingIn, slotWrong, cardUsed, poolsUsed, itemUsed}
 use Rattle.format.specs.Target.{slotOf, slotTarget, targetOf, missing, writeLimit, bulkStart, bulkLength}
 use Rattle.format.specs.Writes.{targetNumber}
 use Rattle.format.proofs.Checks.{through, passed-test, passed-last, passed-check, ok-is}
 use Rattle.format.proofs.Rules.{passes-inside, copy-allowed}
 use Rattle.format.proofs.Steps.{one-card-fine}
 use Rattle.agreement.proofs.Used.{item-is}
-use Rattle.segments.specs.Operation.{addressOf}
 
 -- where the range of a target ends
 abbrev rangeEnd : Target → ℕ

@@ -1,0 +1,66 @@
+-- `fill_records::next_fill` meets its contract. Assumes nothing.
+use Prim.Native.Nat.{_+_, _≤_}
+use mathlib.Core.Path.{sym, _∙_}
+use borrow.Author.Needs.{needs}
+use borrow.Author.Tests.{lt-ltb, le-ltb, ltb-false}
+use native.Mathlib.Omega.{arith}
+use lib.ListN.{length}
+use Rattle.fill_records.specs.Records.{nextFill}
+use Rattle.fill_records.proofs.next_fill.Statement.{statement}
+use Rattle.fill_records.proofs.next_fill.Tie as tie
+
+-- 16 bytes stand at the cursor
+within : (c : tie.Else2) → c .before .before .before .before .before .args .place .cursor + 16 ≤ length (c .before .before .before .before .before .args .file .now)
+within c = ltb-false _ _ (sym (c .before .passes .ensures) ∙ c .if2 .left)
+
+following-requires : tie.Need-following-requires
+following-requires c κs = search needs
+
+returns : tie.Need-returns
+unfolding nextFill
+returns c = rw (lt-ltb _ _ (c .before .if1 .taken)) (c .following .ensures)
+
+passes-requires : tie.Need-passes-requires
+passes-requires c κs = search needs
+
+fill-place-requires : tie.Need-fill-place-requires
+fill-place-requires c κs = search needs
+
+returns-2 : tie.Need-returns-2
+unfolding nextFill
+returns-2 c =
+    let p = c .before .before in
+    rw (le-ltb _ _ (p .before .if1 .left), ← (p .passes .ensures), c .before .if2 .taken) (c .fill-place .ensures)
+
+window-requires : tie.Need-window-requires
+window-requires c κs = within c
+
+address-width-requires : tie.Need-address-width-requires
+address-width-requires c κs = search needs
+
+decoded-requires : tie.Need-decoded-requires
+decoded-requires c κs =
+    let e = c .before .before in
+    let a = e .before .before .before .before .before .args in
+    (c .address-width .ensures .1, c .address-width .ensures .2, omega (arith, within e))
+
+returns-3 : tie.Need-returns-3
+unfolding nextFill
+returns-3 c =
+    let w = c .before .before in
+    let p = w .before .before in
+    rw (le-ltb _ _ (p .before .if1 .left), ← (p .passes .ensures), w .before .if2 .left, ← (w .window .ensures), ← (c .before .address-width .ensures .0)) (c .decoded .ensures)
+
+pub next-fill-spec : {M : Type 1} → statement M
+next-fill-spec =
+    tie.close
+    (tie.spec
+    following-requires
+    returns
+    passes-requires
+    fill-place-requires
+    returns-2
+    window-requires
+    address-width-requires
+    decoded-requires
+    returns-3)

@@ -1,0 +1,59 @@
+-- The records of successive WRITEs and FILLs, one after the other, as their bytes say. It is for operations that an earlier pass has
+-- checked.
+use Prim.Native.Nat.{ℕ, zero, suc, _+_, _-_, _%_, _^_}
+use mathlib.Core.Bool.{cond}
+use mathlib.Core.List.{List, [], _∷_}
+use lib.Dec.{eqb, ltb}
+use lib.ListN.{length}
+use Rattle.format.specs.declared.operation.WriteRecord.{WriteRecord}
+use Rattle.format.specs.Bytes.{byte, be, part}
+use Rattle.format.specs.Operation.{addressWidth}
+use Rattle.format.specs.Writes.{write}
+use Rattle.fill_records.specs.declared.FillPlace.{FillPlace}
+
+-- one number for a WRITE and another for a FILL
+abbrev pub byOpcode : (opcode write fill : ℕ) → ℕ
+byOpcode opcode write fill = cond (eqb opcode 0) write fill
+
+-- how many writes the operation in some bytes makes
+abbrev pub writesIn : (width : ℕ) → List ℕ → ℕ
+writesIn width bytes = byOpcode (byte bytes 0) 1 (be 4 bytes (2 + width))
+
+-- how many bytes its length has
+abbrev pub lengthIn : List ℕ → ℕ
+lengthIn bytes = byOpcode (byte bytes 0) 0 4
+
+-- before the records of the operation at a cursor, of which so many are made
+abbrev pub fillPlace : (cursor made : ℕ) → FillPlace
+fillPlace cursor made = record { target = 0; address = 0; value = 0; left = 0; cursor = cursor; made = made }
+
+-- the next record of the same operation
+abbrev pub following : FillPlace → FillPlace
+following p =
+    record { target = p .target; address = (p .address + 1) % 2 ^ 32; value = p .value; left = p .left - 1; cursor = p .cursor; made = p .made }
+
+-- the first record of the operation in some bytes that is not made yet
+abbrev pub decodedFill : List ℕ → (width : ℕ) → FillPlace → FillPlace
+decodedFill bytes width p =
+    record { target = byte bytes 1; address = (be width bytes 2 + p .made) % 2 ^ 32; value = byte bytes (2 + width + lengthIn bytes); left = writesIn width bytes - p .made - 1; cursor = p .cursor + (3 + width + lengthIn bytes); made = 0 }
+
+-- the next record; where fewer than 16 bytes stand at the cursor there is none
+unfoldable pub nextFill : List ℕ → (version : ℕ) → FillPlace → FillPlace
+nextFill file version p =
+    cond (ltb 0 (p .left)) (following p)
+    (cond (ltb (length file) (p .cursor + 16)) (fillPlace (p .cursor) (p .made))
+    (decodedFill (part file (p .cursor) 16) (addressWidth version) p))
+
+-- a place's record
+abbrev pub recordOf : FillPlace → WriteRecord
+recordOf p = write (p .target) (p .address) (p .value)
+
+-- the records behind a place
+unfoldable pub fillRecords : List ℕ → (version count : ℕ) → FillPlace → List WriteRecord
+fillRecords file version zero p = []
+fillRecords file version (suc n) p = recordOf (nextFill file version p) ∷ fillRecords file version n (nextFill file version p)
+
+-- the place of the last of so many
+unfoldable pub placeAfter : List ℕ → (version count : ℕ) → FillPlace → FillPlace
+placeAfter file version zero p = p
+placeAfter file version (suc n) p = nextFill file version (placeAfter file version n p)
