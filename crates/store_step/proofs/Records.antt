@@ -1,8 +1,8 @@
 -- What is stored of a step that is taken is its records, and they are as many as it counts.
-use Prim.Native.Nat.{ℕ, min, _≤_, _<_}
+use Prim.Native.Nat.{ℕ, min}
 use mathlib.Core.Bool.{Bool, true, false, cond, _||_}
-use mathlib.Core.List.{List, [], _++_, append-nil}
-use mathlib.Core.Path.{_≡_, refl, sym, ap, _∙_}
+use mathlib.Core.List.{List, append-nil}
+use mathlib.Core.Path.{_≡_, refl}
 use native.Mathlib.Omega.{arith}
 use lib.Dec.{ltb}
 use lib.ListN.{length}
@@ -13,8 +13,9 @@ use Rattle.format.specs.Lent.{stored}
 use Rattle.current.specs.declared.Current.{Current}
 use Rattle.current.specs.declared.Step.{Step}
 use Rattle.plain_writes.specs.Plain.{plainWrites}
+use Rattle.plain_writes.proofs.Writes.{writes-long}
 use Rattle.store_writes.specs.Stored.{storable, writesStored}
-use Rattle.store_writes.proofs.Writes.{writes-long, storable-all}
+use Rattle.store_writes.proofs.Writes.{storable-all}
 use Rattle.fill_records.specs.Records.{fillPlace, fillRecords}
 use Rattle.fill_records.proofs.Records.{records-long}
 use Rattle.store_fills.specs.Stored.{fillsStored}

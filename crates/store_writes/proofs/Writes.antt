@@ -1,14 +1,13 @@
--- Laws of the writes that are stored: how many they are, each of them, and the run after some turns of the loop.
+-- Laws of the writes that are stored: how many they are, each of them in 16 bytes, and the run after some turns of the loop.
 use Prim.Native.Nat.{ℕ, zero, suc, _+_, _*_, _≤_, _<_}
 use mathlib.Core.Bool.{Bool, true, false, cond, _||_, or-true}
-use mathlib.Core.List.{List, _++_}
-use mathlib.Core.Path.{_≡_, refl, sym, ap, _∙_}
-use native.Mathlib.Nat.{suc-mul, add-zero, zero-add, mul-le-mul-right}
+use mathlib.Core.List.{List}
+use mathlib.Core.Path.{_≡_, refl, sym}
+use native.Mathlib.Nat.{suc-mul, add-zero, mul-le-mul-right}
 use native.Mathlib.Omega.{arith}
 use borrow.Author.Tests.{lt-ltb, le-ltb, ltb-false, leb-true}
 use lib.Dec.{eqb, ltb}
-use lib.ListN.{length, getD, set, take, drop}
-use lib.Seq.{paste, length-paste}
+use lib.ListN.{length, set}
 use Rattle.format.specs.declared.operation.WriteRecord.{WriteRecord}
 use Rattle.format.specs.Bytes.{byte, be, part}
 use Rattle.format.specs.Operation.{addressWidth}
@@ -18,7 +17,8 @@ use Rattle.format.proofs.Checks.{and-true}
 use Rattle.format.proofs.Sizes.{width-range}
 use Rattle.plain_writes.specs.Plain.{plainSize, plainAt, plainBehind, plainWrite, plainWrites}
 use Rattle.plain_writes.proofs.Gather.{all-plain}
-use Rattle.writes.proofs.Lists.{paste-more, paste-all}
+use Rattle.plain_writes.proofs.Writes.{writes-long, write-at}
+use Rattle.writes.proofs.Front as front
 use Rattle.store_writes.specs.Stored.{storable, writesStored}
 
 -- HOW MANY
@@ -71,18 +71,6 @@ storable-all version file room end from (suc count) within inside some =
 
 -- EACH OF THEM
 
-pub writes-long : (version : ℕ) (file : List ℕ) (n from : ℕ) → length (plainWrites version file n from) ≡ n
-unfolding plainWrites
-writes-long version file zero from = refl
-writes-long version file (suc n) from = ap suc (writes-long version file n (from + plainSize version))
-
-pub write-at : (version : ℕ) (file : List ℕ) (n from i : ℕ) (d : WriteRecord) → i < n → getD (plainWrites version file n from) i d ≡ plainWrite version file (from + i * plainSize version)
-unfolding plainWrites
-write-at version file zero from i d less = absurd (omega (arith, less))
-write-at version file (suc n) from zero d less = ap (plainWrite version file) (omega arith)
-write-at version file (suc n) from (suc i) d less =
-    write-at version file n (from + plainSize version) i d (omega (arith, less)) ∙ ap (plainWrite version file) (omega (arith, suc-mul i (plainSize version)))
-
 -- its fields stand in 16 bytes from its place on
 module _ (version : ℕ) (file : List ℕ) (at : ℕ) where
   pub write-first : eqb version 1 ≡ true → write (byte (part file at 16) 0) (be 3 (part file at 16) 1) (byte (part file at 16) 4) ≡ plainWrite version file at
@@ -105,24 +93,24 @@ module _ (file : List ℕ) (version from count : ℕ) (run : List WriteRecord) w
   abbrev records : List WriteRecord
   records = plainWrites version file n from
 
-  abbrev pub pasted : (i : ℕ) → List WriteRecord
-  pasted i = take i records ++ drop i run
+  fits : length records ≤ length run
+  fits = omega (arith, writes-long version file n from, storable-fits (length run) (length file) version from count .0)
 
-  pasted-is : (i : ℕ) → paste run 0 records i ≡ pasted i
-  pasted-is i = rw (zero-add i)
+  abbrev pub pasted : (i : ℕ) → List WriteRecord
+  pasted i = front.pasted records run i
 
   pub pasted-long : (i : ℕ) → i ≤ n → length (pasted i) ≡ length run
-  pasted-long i less =
-      ap length (sym (pasted-is i)) ∙ length-paste run 0 records i (omega (arith, storable-fits (length run) (length file) version from count .0)) (rw (writes-long version file n from) less)
+  pasted-long i few = front.pasted-long records run fits i (rw (writes-long version file n from) few)
 
   pub pasted-next : (i : ℕ) → i < n → set (pasted i) i (plainWrite version file (from + i * plainSize version)) ≡ pasted (i + 1)
   pasted-next i less =
-      rw (zero-add i, zero-add (i + 1)) at (paste-more run 0 records i (plainWrite version file (from + i * plainSize version)) (omega (arith, storable-fits (length run) (length file) version from count .0)) (rw (writes-long version file n from) less) (write-at version file n from i (plainWrite version file (from + i * plainSize version)) less))
+      front.pasted-next records run fits i (plainWrite version file (from + i * plainSize version)) (rw (writes-long version file n from) less) (write-at version file n from i (plainWrite version file (from + i * plainSize version)) less)
 
   pub stored-is : pasted n ≡ writesStored file version from count run
   unfolding writesStored
-  stored-is = rw (zero-add n, zero-add (length records)) at (paste-all run 0 records n (sym (writes-long version file n from)))
+  stored-is = front.pasted-all records run fits n (sym (writes-long version file n from))
 
   -- the run keeps its length
   pub stored-long : length (writesStored file version from count run) ≡ length run
-  stored-long = ap length (sym stored-is) ∙ pasted-long n (omega arith)
+  unfolding writesStored
+  stored-long = front.stored-long records run fits

@@ -1,4 +1,5 @@
 pub mod Lists
+pub mod Front
 pub mod Segments
 pub mod Body
 pub mod Again
