@@ -164,7 +164,7 @@ part-fits state file room p Closing a e = closing-fits state room p a e
 part-fits state file room p Between a e =
     fits-cond (not (p .initialized)) _ _ room a (opening-fits state file room (openingBegun (state .header) p) a) (fits-cond (ltb (p .«frame_index») (state .header .«frame_count»)) _ _ room a (begun-fits state file room (frameBegun file (p .cursor) (p .«frame_index») p) a) (fits-cond (state .header .repeat) _ _ room a (begun-fits state file room (frameBegun file (state .header .«frame_start») 0 p) a) (closing-fits state room (closingAt 0 false p) a))) e
 
-checked-25 : (x : Checked Played) (a : Played) → as25 x ≡ ok a → x ≡ ok a
+pub checked-25 : (x : Checked Played) (a : Played) → as25 x ≡ ok a → x ≡ ok a
 checked-25 (ok b) a e = e
 checked-25 (refused number place) a e = absurd (refused-not-ok e)
 

@@ -50,7 +50,7 @@ fn replay_script(input: i32, buffer: &mut [u8], length: usize, calls: u32) -> Co
     if io::read_full(input, &mut buffer[..length]) < length {
         return nothing;
     }
-    let started = player::start(&buffer[..length]);
+    let started = start::start(&buffer[..length]);
     let state = started.state;
     replay_calls(input, buffer, state, calls)
 }

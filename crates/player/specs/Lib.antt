@@ -1,2 +1,1 @@
 pub mod Vsync
-pub mod Start

@@ -8,7 +8,7 @@ ghost use lib.ListN.{length};
 ghost use Rattle.format.specs.Player.{call, runAfter};
 ghost use Rattle.format.specs.State.{started};
 ghost use Rattle.format.specs.Stream.{read};
-ghost use Rattle.player.specs.Start.{verdictOn};
+ghost use Rattle.start.specs.Start.{verdictOn};
 ghost use Rattle.player.specs.Vsync.{vsyncOf, stateAfter};
 ghost use Rattle.sgub.specs.Play.{startFields};
 
@@ -24,7 +24,7 @@ pub struct SgubStarted {
 pub extern "C" fn sgub_start(file: &[u8]) -> SgubStarted
     ensures { λ r. ⌜ r ≡ startFields (verdictOn (read (now (file .entry)))) (started (now (file .entry))) ⌝ }
 {
-    let found = player::start(file);
+    let found = start::start(file);
     let player = found.state;
     let verdict = found.verdict;
     match verdict {

@@ -14,13 +14,13 @@ use Rattle.format.specs.declared.player.Part.{Part}
 use Rattle.format.specs.declared.player.Part.the-variants.{Between, Opening, Frame, Closing}
 use Rattle.format.specs.declared.player.Progress.{Progress}
 use Rattle.format.specs.declared.player.StreamPlayer.{StreamPlayer}
-use Rattle.format.specs.Checked.{Checked, ok, refused, _>>=_, _>>_}
+use Rattle.format.specs.Checked.{Checked, ok, _>>=_, _>>_}
 use Rattle.format.specs.Lent.{stored}
 use Rattle.format.specs.Player.{Played, openingBegun, frameBegun, closingAt, playFrame, playOpening, play, belongs, as25, call, runAfter}
 use Rattle.format.specs.Stream.{openingLimit}
 use Rattle.format.proofs.Accepted.{opening-limit}
-use Rattle.format.proofs.Checks.{refused-not-ok, through, passed-test, passed-check, ok-is, or-false}
-use Rattle.agreement.proofs.Planned.{records-fit}
+use Rattle.format.proofs.Checks.{through, passed-test, passed-check, ok-is, or-false}
+use Rattle.agreement.proofs.Planned.{checked-25, records-fit}
 use Rattle.segments.specs.declared.place.Place.{Place}
 use Rattle.begin.specs.Begin.{nowhere, frameAt, openingPlace, betweenPlace, partPlace, firstPlace}
 use Rattle.writes.specs.Segment.{inserted}
@@ -79,10 +79,6 @@ module _ (file : List ℕ) (state : StreamPlayer) (short : openingLimit (state .
 pub stored-nothing : (file : List ℕ) (state : StreamPlayer) (run : List WriteRecord) → storedCall file state 0 run ≡ run
 unfolding storedCall firstPlace
 stored-nothing file state run = stored-none file state (nowhere (length run)) run refl
-
-checked-25 : (x : Checked Played) (a : Played) → as25 x ≡ ok a → x ≡ ok a
-checked-25 (ok b) a e = e
-checked-25 (refused number place) a e = absurd (refused-not-ok e)
 
 -- a call that takes some is of a state that belongs to the file, and plays the part that is under way
 plays : (file : List ℕ) (state : StreamPlayer) (room : ℕ) (a : Played) → call state file room ≡ ok a → 0 < length (a .records) → (belongs state file ≡ ok tt) × (play state file room (state .progress) (partOf (state .progress .part)) ≡ ok a)

@@ -1,7 +1,7 @@
--- `player::begin::recorded` meets its contract. Assumes nothing.
+-- `start::recorded` meets its contract. Assumes nothing.
 use borrow.Author.Needs.{needs}
-use Rattle.player.proofs.begin.recorded.Statement.{statement}
-use Rattle.player.proofs.begin.recorded.Tie as tie
+use Rattle.start.proofs.recorded.Statement.{statement}
+use Rattle.start.proofs.recorded.Tie as tie
 
 unplayed-requires : tie.Need-unplayed-requires
 unplayed-requires c κs = search needs

@@ -1,8 +1,8 @@
--- `player::begin::start` meets its contract. Assumes nothing.
+-- `start::start` meets its contract. Assumes nothing.
 use borrow.Author.Needs.{needs}
-use Rattle.player.proofs.Starts.{started-accepted, started-refused}
-use Rattle.player.proofs.begin.start.Statement.{statement}
-use Rattle.player.proofs.begin.start.Tie as tie
+use Rattle.start.proofs.Starts.{started-accepted, started-refused}
+use Rattle.start.proofs.start.Statement.{statement}
+use Rattle.start.proofs.start.Tie as tie
 
 check-file-requires : tie.Need-check-file-requires
 check-file-requires c κs = search needs

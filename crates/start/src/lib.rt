@@ -14,7 +14,7 @@ ghost use mathlib.Core.Path.{_≡_};
 ghost use Rattle.format.specs.Rule.{verdictOf};
 ghost use Rattle.format.specs.State.{unplayed, started};
 ghost use Rattle.format.specs.Stream.{read};
-ghost use Rattle.player.specs.Start.{recordedPlayer, verdictOn};
+ghost use Rattle.start.specs.Start.{recordedPlayer, verdictOn};
 
 // The verdict on the file, and the player's state. A refused file gives a finished state with recorded size 0.
 pub struct Started {

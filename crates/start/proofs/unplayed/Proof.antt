@@ -1,8 +1,8 @@
--- `player::begin::unplayed` meets its contract. Assumes nothing.
+-- `start::unplayed` meets its contract. Assumes nothing.
 use mathlib.Core.Path.{refl}
 use Rattle.format.specs.State.{unplayed}
-use Rattle.player.proofs.begin.unplayed.Statement.{statement}
-use Rattle.player.proofs.begin.unplayed.Tie as tie
+use Rattle.start.proofs.unplayed.Statement.{statement}
+use Rattle.start.proofs.unplayed.Tie as tie
 
 returns : tie.Need-returns
 unfolding unplayed

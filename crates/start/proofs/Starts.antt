@@ -14,7 +14,7 @@ use Rattle.file_check.specs.declared.check.FileAnswer.the-variants.{Accepted, R
 use Rattle.file_check.specs.declared.check.FileCheck.{FileCheck}
 use Rattle.file_check.specs.Answer.{fileCheckOf, recorded}
 use Rattle.file_check.proofs.Answers.{AcceptedAs, accepted-as, refused-as}
-use Rattle.player.specs.Start.{recordedPlayer, verdictOn}
+use Rattle.start.specs.Start.{recordedPlayer, verdictOn}
 
 recorded-as : (file : List ℕ) (header : Header) (cards : CardTable) (uses : Bool) → AcceptedAs file header cards uses → (ok tt ≡ verdictOn (read file)) × (recordedPlayer header cards uses ≡ started file)
 unfolding startedAs playerOf
