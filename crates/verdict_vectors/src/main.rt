@@ -1,7 +1,8 @@
 // Replays stored files and their answers: data/verdicts.bin has, for each file, its length, its bytes and five numbers, each of
 // four bytes: the refusal's number and place, and version, frames and opening of an accepted file. rust/README.md says how it is made.
 use file_check::FileAnswer;
-use libc::STDOUT_FILENO;
+use vectors::Counts;
+ghost use Prim.Native.Nat.{_<_};
 
 // A file's answer as the five numbers.
 struct Answer {
@@ -11,9 +12,6 @@ struct Answer {
     frames: u32,
     opening: u32,
 }
-
-// The length that ends the list. No file in it is longer than 4,096 bytes.
-const END: u32 = 0xFFFFFFFF;
 
 fn answer_of(file: &[u8]) -> Answer {
     let checked = file_check::check_file(file);
@@ -59,58 +57,36 @@ fn is_stored(answer: Answer, stored: &[u8]) -> bool {
     answer.opening == big_endian::read_u32(stored, 16)
 }
 
-// Reads one file with its answer and compares: 0 the same, 1 different, 2 no whole file is left.
-fn replay(input: i32, buffer: &mut [u8], length: usize) -> u32 {
-    if buffer.len() < length {
-        return 2;
-    }
-    if io::read_full(input, &mut buffer[..length]) < length {
-        return 2;
-    }
+// Reads a file with its answer and compares. False also where no whole one is left. No file of the list is longer than 4,096 bytes.
+fn replay(input: i32, length: usize) -> bool {
+    let mut file = io::buffer();
     let mut stored = [0u8; 20];
-    if io::read_full(input, &mut stored) < 20 {
-        return 2;
+    if !vectors::read_front(input, &mut file, length) {
+        return false;
     }
-    if is_stored(answer_of(&buffer[..length]), &stored) {
-        return 0;
+    if !vectors::read_front(input, &mut stored, 20) {
+        return false;
     }
-    1
+    is_stored(answer_of(vectors::front(&file, length)), &stored)
 }
 
-fn print_count(word: &[u8], count: u64) {
-    io::write_all(STDOUT_FILENO, word);
-    io::write_all(STDOUT_FILENO, b" ");
-    io::print_decimal(STDOUT_FILENO, count);
-    io::write_all(STDOUT_FILENO, b"\n");
-}
-
-fn next_length(input: i32) -> u32 {
-    let mut head = [0u8; 4];
-    if io::read_full(input, &mut head) < 4 {
-        return END;
+// The counts behind the next file of the list.
+fn replay_next(input: i32, counts: Counts) -> Counts
+    requires { ⌜ 0 < counts .left ⌝ }
+    ensures { λ r. ⌜ r .left < counts .left ⌝ }
+{
+    let length = vectors::next_number(input);
+    if length == vectors::END {
+        return vectors::ended(counts);
     }
-    big_endian::read_u32(&head, 0)
+    vectors::count(counts, replay(input, length as usize))
 }
 
 fn main() {
     let input = os::open_read(b"verdicts.bin");
-    let mut space = io::buffer();
-    let buffer: &mut [u8] = &mut space;
-    let mut same: u64 = 0;
-    let mut different: u64 = 0;
-    let mut left: u32 = 100000;
-    while 0 < left {
-        let length = next_length(input);
-        if length == END {
-            break;
-        }
-        if replay(input, buffer, length as usize) == 0 {
-            same = std::num::wrapping_add_u64(same, 1);
-        } else {
-            different = std::num::wrapping_add_u64(different, 1);
-        }
-        left -= 1;
+    let mut counts = vectors::none();
+    while 0 < counts.left {
+        counts = replay_next(input, counts);
     }
-    print_count(b"same", same);
-    print_count(b"different", different);
+    vectors::print(counts);
 }

@@ -1,68 +1,13 @@
--- `verdict_vectors::main` is safe and ends. Assumes nothing.
+-- `verdict_vectors::main` is safe and ends: each turn leaves fewer entries to read. Assumes nothing.
 use borrow.Author.Needs.{needs}
-use native.Mathlib.Omega.{arith}
 use Rattle.verdict_vectors.proofs.main.Statement.{statement}
 use Rattle.verdict_vectors.proofs.main.Tie as tie
 
 abbrev Inv-loop : tie.InvT-loop
-Inv-loop input buffer₀ same₀ different₀ left₀ t9 t10 buffer same different left = Unit {0}
+Inv-loop input counts₀ counts = Unit {0}
 
 abbrev μ-loop : tie.MeasureT-loop
-μ-loop input buffer₀ same₀ different₀ left₀ t9 t10 buffer same different left = left
-
-slice-aggregate-open-read : tie.Need-slice-aggregate-open-read Inv-loop μ-loop
-slice-aggregate-open-read c = search needs
-
-open-read-requires : tie.Need-open-read-requires Inv-loop μ-loop
-open-read-requires c κs = search needs
-
-buffer-requires : tie.Need-buffer-requires Inv-loop μ-loop
-buffer-requires c κs = search needs
-
-slice-aggregate-buffer : tie.Need-slice-aggregate-buffer Inv-loop μ-loop
-slice-aggregate-buffer c = search needs
-
-loop-holds : tie.Need-loop-holds Inv-loop μ-loop
-loop-holds c = search needs
-
-next-length-requires : tie.Need-next-length-requires Inv-loop μ-loop
-next-length-requires c κs = search needs
-
-cast-replay : tie.Need-cast-replay Inv-loop μ-loop
-cast-replay c = search needs
-
-replay-requires : tie.Need-replay-requires Inv-loop μ-loop
-replay-requires c κs = search needs
-
-wrapping-add-u64-requires : tie.Need-wrapping-add-u64-requires Inv-loop μ-loop
-wrapping-add-u64-requires c κs = search needs
-
-wrapping-add-u64-requires-2 : tie.Need-wrapping-add-u64-requires-2 Inv-loop μ-loop
-wrapping-add-u64-requires-2 c κs = search needs
-
-sub-left : tie.Need-sub-left Inv-loop μ-loop
-sub-left c = search needs
-
-loop-less : tie.Need-loop-less Inv-loop μ-loop
-loop-less c = search needs
-
-loop-again : tie.Need-loop-again Inv-loop μ-loop
-loop-again c = search needs
-
-slice-aggregate-print-count : tie.Need-slice-aggregate-print-count Inv-loop μ-loop
-slice-aggregate-print-count c = search needs
-
-print-count-requires : tie.Need-print-count-requires Inv-loop μ-loop
-print-count-requires c κs = search needs
-
-slice-aggregate-print-count-2 : tie.Need-slice-aggregate-print-count-2 Inv-loop μ-loop
-slice-aggregate-print-count-2 c = search needs
-
-print-count-requires-2 : tie.Need-print-count-requires-2 Inv-loop μ-loop
-print-count-requires-2 c κs = search needs
-
-returns : tie.Need-returns Inv-loop μ-loop
-returns c = search needs
+μ-loop input counts₀ counts = counts .left
 
 pub main-spec : {M : Type 1} → statement M
 main-spec =
@@ -70,21 +15,12 @@ main-spec =
     (tie.spec
     Inv-loop
     μ-loop
-    slice-aggregate-open-read
-    open-read-requires
-    buffer-requires
-    slice-aggregate-buffer
-    loop-holds
-    next-length-requires
-    cast-replay
-    replay-requires
-    wrapping-add-u64-requires
-    wrapping-add-u64-requires-2
-    sub-left
-    loop-less
-    loop-again
-    slice-aggregate-print-count
-    print-count-requires
-    slice-aggregate-print-count-2
-    print-count-requires-2
-    returns)
+    (λ c. search needs)
+    (λ c κs. search needs)
+    (λ c κs. search needs)
+    (λ c. search needs)
+    (λ c κs. search needs)
+    (λ c. search needs)
+    (λ c. search needs)
+    (λ c κs. search needs)
+    (λ c. search needs))
