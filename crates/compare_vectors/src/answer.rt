@@ -52,8 +52,8 @@ pub fn is_same(
     let comparison = compare::compare(
         master,
         other,
-        &mut image[..room],
-        &mut other_image[..other_room],
+        &mut image[0..room],
+        &mut other_image[0..other_room],
     );
     if !is_answer(stored, comparison) {
         return false;
