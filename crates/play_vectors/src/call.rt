@@ -77,5 +77,5 @@ pub fn replay(buffer: &mut [u8], state: StreamPlayer, stored: &[u8]) -> Replayed
             next: state,
         };
     }
-    compare(&buffer[..length], state, stored)
+    compare(&buffer[0..length], state, stored)
 }

@@ -3,20 +3,9 @@
 use begin::first_place;
 use format::StreamPlayer;
 use segments::next_segment;
+use vectors::BASIS;
+use vectors::mix;
 use writes::Segment;
-
-// Where the number begins.
-const BASIS: u32 = 0x811C9DC5;
-
-// 33 times the number and a value, of which the low 32 bits count.
-fn mix(sum: u32, value: u32) -> u32 {
-    let by_2 = std::num::wrapping_add_u32(sum, sum);
-    let by_4 = std::num::wrapping_add_u32(by_2, by_2);
-    let by_8 = std::num::wrapping_add_u32(by_4, by_4);
-    let by_16 = std::num::wrapping_add_u32(by_8, by_8);
-    let by_32 = std::num::wrapping_add_u32(by_16, by_16);
-    std::num::wrapping_add_u32(std::num::wrapping_add_u32(by_32, sum), value)
-}
 
 // The value of a segment's record; 0 if it would stand behind the file's end.
 fn value_of(file: &[u8], segment: Segment, i: usize) -> u8 {
