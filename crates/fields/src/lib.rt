@@ -9,10 +9,11 @@ pub use widths::read_address;
 ghost use mathlib.Core.Path.{_≡_};
 ghost use Prim.Native.Nat.{_+_, _^_, _≤_, _<_};
 ghost use Rattle.format.specs.Operation.{sizeOf, fieldsAt};
+ghost use Rattle.fields.specs.Fields.{writeAt, fillAt, copyAt};
 
 fn read_write(file: &[u8], width: usize, at: usize) -> Operation
     requires { ⌜ (3 ≤ width) × (width ≤ 4) × (at + width + 3 < 2 ^ 64) ⌝ }
-    ensures { λ r. ⌜ r ≡ fieldsAt (now (file .entry)) width at 0 ⌝ }
+    ensures { λ r. ⌜ r ≡ writeAt (now (file .entry)) width at ⌝ }
 {
     Operation::Write {
         target: byte_at(file, at + 1),
@@ -23,7 +24,7 @@ fn read_write(file: &[u8], width: usize, at: usize) -> Operation
 
 fn read_fill(file: &[u8], width: usize, at: usize) -> Operation
     requires { ⌜ (3 ≤ width) × (width ≤ 4) × (at + width + 7 < 2 ^ 64) ⌝ }
-    ensures { λ r. ⌜ r ≡ fieldsAt (now (file .entry)) width at 1 ⌝ }
+    ensures { λ r. ⌜ r ≡ fillAt (now (file .entry)) width at ⌝ }
 {
     Operation::Fill {
         target: byte_at(file, at + 1),
@@ -35,7 +36,7 @@ fn read_fill(file: &[u8], width: usize, at: usize) -> Operation
 
 fn read_copy(file: &[u8], width: usize, at: usize) -> Operation
     requires { ⌜ (3 ≤ width) × (width ≤ 4) × (at + width + 12 < 2 ^ 64) ⌝ }
-    ensures { λ r. ⌜ r ≡ fieldsAt (now (file .entry)) width at 2 ⌝ }
+    ensures { λ r. ⌜ r ≡ copyAt (now (file .entry)) width at ⌝ }
 {
     Operation::Copy {
         target: byte_at(file, at + 1),

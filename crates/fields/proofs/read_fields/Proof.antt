@@ -1,6 +1,7 @@
 -- `fields::read_fields` meets its contract. Assumes nothing.
 use native.Mathlib.Omega.{arith}
 use mathlib.Core.Path.{_≡_}
+use Rattle.format.specs.Operation.{fieldsAt}
 use Rattle.format.proofs.Sizes.{size-is}
 use Rattle.fields.proofs.read_fields.Statement.{statement}
 use Rattle.fields.proofs.read_fields.Tie as tie
@@ -11,7 +12,8 @@ read-write-requires c κs =
     omega (arith, size-is (s .args .width) 0 (omega arith) (omega arith) (omega arith), rw (c .if1 .taken) at (s .pre .3))
 
 returns : tie.Need-returns
-returns c = cc
+unfolding fieldsAt
+returns c = rw (c .before .if1 .taken) (c .read-write .ensures)
 
 read-fill-requires : tie.Need-read-fill-requires
 read-fill-requires c κs =
@@ -19,7 +21,8 @@ read-fill-requires c κs =
     omega (arith, size-is (s .args .width) 1 (omega arith) (omega arith) (omega arith), rw (c .if2 .taken) at (s .pre .3))
 
 returns-2 : tie.Need-returns-2
-returns-2 c = cc
+unfolding fieldsAt
+returns-2 c = rw (c .before .if2 .taken) (c .read-fill .ensures)
 
 read-copy-requires : tie.Need-read-copy-requires
 read-copy-requires c κs =
@@ -28,9 +31,10 @@ read-copy-requires c κs =
     omega (arith, size-is (s .args .width) 2 (omega arith) (omega arith) (omega arith), rw copy at (s .pre .3))
 
 returns-3 : tie.Need-returns-3
+unfolding fieldsAt
 returns-3 c =
     let copy : c .before .before .before .before .args .opcode ≡ 2 = omega arith in
-    cc
+    rw copy (c .read-copy .ensures)
 
 pub read-fields-spec : {M : Type 1} → statement M
 read-fields-spec =
