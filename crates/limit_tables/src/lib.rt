@@ -21,7 +21,7 @@ fn write_end(target: Target) -> u32
 }
 
 // One more than the end of the range of FILL and COPY; 0 for a missing target.
-fn bulk_end(target: Target) -> u64
+pub fn bulk_end(target: Target) -> u64
     ensures { λ r. ⌜ r ≡ bulkEnd target ⌝ }
 {
     if target.missing() {

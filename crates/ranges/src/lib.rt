@@ -4,6 +4,7 @@ use card_rules::one_card_wrong;
 use format::CardRequirement;
 use format::CardTable;
 use format::Target;
+use limit_tables::bulk_end;
 ghost use mathlib.Core.Path.{_≡_};
 ghost use mathlib.Core.Bool.{cond};
 ghost use mathlib.Core.List.{[]};
@@ -12,7 +13,6 @@ ghost use lib.Dec.{eqb};
 ghost use lib.ListN.{length, replicate};
 ghost use Rattle.format.specs.Card.{cardsOf};
 ghost use Rattle.format.specs.Target.{targetOf};
-ghost use Rattle.limit_tables.specs.Limits.{bulkEnd};
 ghost use Rattle.ranges.specs.Ranges.{writeTop, cardTarget, startsBy, endsBy, startsOf, endsOf, startsWith, endsWith, startsCard, endsCard};
 
 // An entry for each opcode, 0 or 1, and each target, 0 to 15.
@@ -28,16 +28,6 @@ fn write_top(target: Target) -> u64
     target.write_limit() as u64 + 2
 }
 
-// One more than the greatest sum of the address and the count of a FILL; 0 for a missing target.
-fn fill_top(target: Target) -> u64
-    ensures { λ r. ⌜ r ≡ bulkEnd target ⌝ }
-{
-    if target.missing() {
-        return 0;
-    }
-    target.bulk_start() as u64 + target.bulk_length() as u64 + 1
-}
-
 // Stores the ranges of a target. The start of a WRITE's is 0 for every target.
 fn put_target(starts: &mut [u32; RANGES], ends: &mut [u64; RANGES], number: usize, target: Target)
     requires { ⌜ (number < 16) × (length (now starts) ≡ 32) × (length (now ends) ≡ 32) ⌝ }
@@ -46,7 +36,7 @@ fn put_target(starts: &mut [u32; RANGES], ends: &mut [u64; RANGES], number: usiz
     let fill = number + 16;
     starts[fill] = target.bulk_start();
     ends[number] = write_top(target);
-    ends[fill] = fill_top(target);
+    ends[fill] = bulk_end(target);
 }
 
 // The targets that need no card.

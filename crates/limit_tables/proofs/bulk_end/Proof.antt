@@ -1,5 +1,5 @@
+-- `limit_tables::bulk_end` meets its contract. Assumes nothing.
 use borrow.Author.Needs.{needs}
-use mathlib.Core.Bool.{and-false, or-false}
 use Rattle.limit_tables.specs.Limits.{bulkEnd}
 use Rattle.limit_tables.proofs.bulk_end.Statement.{statement}
 use Rattle.limit_tables.proofs.bulk_end.Tie as tie
@@ -9,7 +9,7 @@ missing-requires c κs = search needs
 
 returns : tie.Need-returns
 unfolding bulkEnd
-returns c = simp (← (c .before .missing .ensures), c .if1 .taken, and-false, or-false)
+returns c = simp (← (c .before .missing .ensures), c .if1 .taken)
 
 bulk-start-requires : tie.Need-bulk-start-requires
 bulk-start-requires c κs = search needs
@@ -31,7 +31,7 @@ add-result-2 c = search needs
 
 returns-2 : tie.Need-returns-2
 unfolding bulkEnd
-returns-2 c = simp (← (c .before .before .before .missing .ensures), c .before .before .if1 .left, ← (c .before .bulk-start .ensures), ← (c .bulk-length .ensures), and-false, or-false)
+returns-2 c = simp (← (c .before .before .before .missing .ensures), c .before .before .if1 .left, ← (c .before .bulk-start .ensures), ← (c .bulk-length .ensures))
 
 pub bulk-end-spec : {M : Type 1} → statement M
 bulk-end-spec =

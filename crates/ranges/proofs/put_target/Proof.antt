@@ -24,8 +24,8 @@ mul-ends c = search needs
 element-write-ends : tie.Need-element-write-ends
 element-write-ends c = search needs
 
-fill-top-requires : tie.Need-fill-top-requires
-fill-top-requires c κs = search needs
+bulk-end-requires : tie.Need-bulk-end-requires
+bulk-end-requires c κs = search needs
 
 mul-ends-2 : tie.Need-mul-ends-2
 mul-ends-2 c = search needs
@@ -34,7 +34,7 @@ element-write-ends-2 : tie.Need-element-write-ends-2
 element-write-ends-2 c = search needs
 
 returns : tie.Need-returns
-returns c = (rw (c .before .before .bulk-start .ensures), rw (c .before .write-top .ensures, c .fill-top .ensures))
+returns c = (rw (c .before .before .bulk-start .ensures), rw (c .before .write-top .ensures, c .bulk-end .ensures))
 
 pub put-target-spec : {M : Type 1} → statement M
 put-target-spec =
@@ -47,7 +47,7 @@ put-target-spec =
     write-top-requires
     mul-ends
     element-write-ends
-    fill-top-requires
+    bulk-end-requires
     mul-ends-2
     element-write-ends-2
     returns)
