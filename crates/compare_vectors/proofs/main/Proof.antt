@@ -3,18 +3,12 @@ use borrow.Author.Needs.{needs}
 use Rattle.compare_vectors.proofs.main.Statement.{statement}
 use Rattle.compare_vectors.proofs.main.Tie as tie
 
-abbrev Inv-loop : tie.InvT-loop
-Inv-loop input image₀ other-image₀ counts₀ image other-image counts = Unit {0}
-
-abbrev μ-loop : tie.MeasureT-loop
-μ-loop input image₀ other-image₀ counts₀ image other-image counts = counts .left
-
 pub main-spec : {M : Type 1} → statement M
 main-spec =
     tie.close
     (tie.spec
-    Inv-loop
-    μ-loop
+    (λ input image₀ other-image₀ counts₀ image other-image counts. Unit {0})
+    (λ input image₀ other-image₀ counts₀ image other-image counts. counts .left)
     (λ c. search needs)
     (λ c κs. search needs)
     (λ c κs. search needs)
