@@ -5,25 +5,16 @@ use Rattle.stores.proofs.Laws.{put-next}
 use Rattle.stores.proofs.store_4.Statement.{statement}
 use Rattle.stores.proofs.store_4.Tie as tie
 
-store-3-requires : tie.Need-store-3-requires
-store-3-requires c κs = search needs
-
-cast-buffer : tie.Need-cast-buffer
-cast-buffer c = search needs
-
-add-buffer : tie.Need-add-buffer
-add-buffer c = search needs
-
-slice-write-buffer : tie.Need-slice-write-buffer
-slice-write-buffer c = search needs
-
-same-length : tie.Need-same-length
-same-length c = search needs
-
 returns : tie.Need-returns
-returns c = let a = c .before .before .before .before .before .args in rw (c .before .before .store-3 .ensures) (put-next 3 (a .value) (a .at) (a .buffer .now) (omega arith))
+returns c = rw (c .before .before .store-3 .ensures) (put-next _ _ _ _ (omega arith))
 
 pub store-4-spec : {M : Type 1} → statement M
 store-4-spec =
     tie.close
-    (tie.spec store-3-requires cast-buffer add-buffer slice-write-buffer same-length returns)
+    (tie.spec
+    (λ c κs. search needs)
+    (λ c. search needs)
+    (λ c. search needs)
+    (λ c. search needs)
+    (λ c. search needs)
+    returns)
