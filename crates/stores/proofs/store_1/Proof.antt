@@ -11,4 +11,4 @@ returns c = put-first _ _ _ (omega arith)
 pub store-1-spec : {M : Type 1} → statement M
 store-1-spec =
     tie.close
-    (tie.spec (λ c. search needs) (λ c. search needs) (λ c. search needs) returns)
+    (tie.spec (search needs) (search needs) (search needs) returns)
