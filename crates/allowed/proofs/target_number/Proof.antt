@@ -3,15 +3,6 @@ use borrow.Author.Needs.{needs}
 use Rattle.allowed.proofs.target_number.Statement.{statement}
 use Rattle.allowed.proofs.target_number.Tie as tie
 
-enum-known-operation : tie.Need-enum-known-operation
-enum-known-operation c = search needs
-
-enum-known-operation-2 : tie.Need-enum-known-operation-2
-enum-known-operation-2 c = search needs
-
-enum-known-operation-3 : tie.Need-enum-known-operation-3
-enum-known-operation-3 c = search needs
-
 returns : tie.Need-returns
 returns c = rw (c .before .operation .given .1)
 
@@ -24,10 +15,4 @@ returns-3 c = rw (c .before .operation3 .given .1)
 pub target-number-spec : {M : Type 1} → statement M
 target-number-spec =
     tie.close
-    (tie.spec
-    enum-known-operation
-    enum-known-operation-2
-    enum-known-operation-3
-    returns
-    returns-2
-    returns-3)
+    (tie.spec (search needs) (search needs) (search needs) returns returns-2 returns-3)

@@ -3,11 +3,8 @@ use borrow.Author.Needs.{needs}
 use Rattle.begin.proofs.closing_from.Statement.{statement}
 use Rattle.begin.proofs.closing_from.Tie as tie
 
-closing-left-requires : tie.Need-closing-left-requires
-closing-left-requires c κs = search needs
-
 returns : tie.Need-returns
 returns c = simp (← (c .closing-left .ensures))
 
 pub closing-from-spec : {M : Type 1} → statement M
-closing-from-spec = tie.close (tie.spec closing-left-requires returns)
+closing-from-spec = tie.close (tie.spec (search needs) returns)

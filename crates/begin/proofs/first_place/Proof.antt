@@ -5,19 +5,13 @@ use Rattle.begin.specs.Begin.{firstPlace}
 use Rattle.begin.proofs.first_place.Statement.{statement}
 use Rattle.begin.proofs.first_place.Tie as tie
 
-nowhere-requires : tie.Need-nowhere-requires
-nowhere-requires c κs = search needs
-
 returns : tie.Need-returns
 unfolding firstPlace
 returns c = simp (eq-eqb _ _ (c .before .if1 .taken), ← (c .nowhere .ensures))
-
-part-place-requires : tie.Need-part-place-requires
-part-place-requires c κs = search needs
 
 returns-2 : tie.Need-returns-2
 unfolding firstPlace
 returns-2 c = simp (ne-eqb _ _ (c .before .if1 .left), ← (c .part-place .ensures))
 
 pub first-place-spec : {M : Type 1} → statement M
-first-place-spec = tie.close (tie.spec nowhere-requires returns part-place-requires returns-2)
+first-place-spec = tie.close (tie.spec (search needs) returns (search needs) returns-2)

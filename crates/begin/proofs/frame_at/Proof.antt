@@ -9,27 +9,12 @@ use Rattle.begin.specs.Begin.{frameAt}
 use Rattle.begin.proofs.frame_at.Statement.{statement}
 use Rattle.begin.proofs.frame_at.Tie as tie
 
-passes-requires : tie.Need-passes-requires
-passes-requires c κs = search needs
-
-nowhere-requires : tie.Need-nowhere-requires
-nowhere-requires c κs = search needs
-
 returns : tie.Need-returns
 unfolding frameAt
 returns c = (simp (← (c .before .before .passes .ensures), c .before .if1 .taken, ← (c .nowhere .ensures)), rw (c .nowhere .ensures) (omega arith))
 
-read-u16-requires : tie.Need-read-u16-requires
-read-u16-requires c κs = search needs
-
-cast-frame-place : tie.Need-cast-frame-place
-cast-frame-place c = search needs
-
 add-frame-place : tie.Need-add-frame-place
 add-frame-place c = omega (arith, ltb-false (length (c .before .before .before .before .args .file .now)) (c .before .before .before .before .args .cursor + 2) (sym (c .before .before .passes .ensures) ∙ c .before .if1 .left))
-
-frame-place-requires : tie.Need-frame-place-requires
-frame-place-requires c κs = search needs
 
 returns-2 : tie.Need-returns-2
 unfolding frameAt
@@ -38,12 +23,4 @@ returns-2 c = (simp (← (c .before .before .before .passes .ensures), c .before
 pub frame-at-spec : {M : Type 1} → statement M
 frame-at-spec =
     tie.close
-    (tie.spec
-    passes-requires
-    nowhere-requires
-    returns
-    read-u16-requires
-    cast-frame-place
-    add-frame-place
-    frame-place-requires
-    returns-2)
+    (tie.spec (search needs) (search needs) returns (search needs) (search needs) add-frame-place (search needs) returns-2)

@@ -5,29 +5,17 @@ use Rattle.belongs.specs.Foreign.{foreignTo}
 use Rattle.belongs.proofs.foreign.Statement.{statement}
 use Rattle.belongs.proofs.foreign.Tie as tie
 
-cast-if1 : tie.Need-cast-if1
-cast-if1 c = search needs
-
 returns : tie.Need-returns
 unfolding foreignTo
 returns c = simp (ne-eqb _ _ (c .if1 .taken))
-
-recorded-wrong-requires : tie.Need-recorded-wrong-requires
-recorded-wrong-requires c κs = search needs
 
 returns-2 : tie.Need-returns-2
 unfolding foreignTo
 returns-2 c = simp (eq-eqb _ _ (c .before .before .if1 .left), ← (c .before .recorded-wrong .ensures), c .if2 .taken)
 
-place-past-requires : tie.Need-place-past-requires
-place-past-requires c κs = search needs
-
 returns-3 : tie.Need-returns-3
 unfolding foreignTo
 returns-3 c = simp (eq-eqb _ _ (c .before .before .before .before .if1 .left), ← (c .before .before .before .recorded-wrong .ensures), c .before .before .if2 .left, ← (c .before .place-past .ensures), c .if3 .taken)
-
-counter-past-requires : tie.Need-counter-past-requires
-counter-past-requires c κs = search needs
 
 returns-4 : tie.Need-returns-4
 unfolding foreignTo
@@ -36,12 +24,4 @@ returns-4 c = simp (eq-eqb _ _ (c .before .before .before .before .before .if1 .
 pub foreign-spec : {M : Type 1} → statement M
 foreign-spec =
     tie.close
-    (tie.spec
-    cast-if1
-    returns
-    recorded-wrong-requires
-    returns-2
-    place-past-requires
-    returns-3
-    counter-past-requires
-    returns-4)
+    (tie.spec (search needs) returns (search needs) returns-2 (search needs) returns-3 (search needs) returns-4)

@@ -12,28 +12,13 @@ returns : tie.Need-returns
 unfolding cardWrong
 returns c = simp (lt-ltb _ _ (c .if1 .taken))
 
-add-byte-at : tie.Need-add-byte-at
-add-byte-at c = search needs
-
-byte-at-requires : tie.Need-byte-at-requires
-byte-at-requires c κs = search needs
-
 returns-2 : tie.Need-returns-2
 unfolding cardWrong
 returns-2 c = simp (zeros-two (c .before .before .before .before .before .args .file .now) (c .before .before .before .before .before .args .at) (omega arith), ← (c .before .byte-at .ensures), ne-eqb _ _ (c .if2 .taken), or-true)
 
-add-byte-at-2 : tie.Need-add-byte-at-2
-add-byte-at-2 c = search needs
-
-byte-at-requires-2 : tie.Need-byte-at-requires-2
-byte-at-requires-2 c κs = search needs
-
 returns-3 : tie.Need-returns-3
 unfolding cardWrong
 returns-3 c = simp (zeros-two (c .before .before .before .before .before .before .before .args .file .now) (c .before .before .before .before .before .before .before .args .at) (omega arith), ← (c .before .byte-at2 .ensures), ne-eqb _ _ (c .if3 .taken), and-false, or-true)
-
-one-card-wrong-requires : tie.Need-one-card-wrong-requires
-one-card-wrong-requires c κs = search needs
 
 returns-4 : tie.Need-returns-4
 unfolding cardWrong
@@ -42,13 +27,4 @@ returns-4 c = simp (le-ltb _ _ (c .before .before .before .before .before .if1 .
 pub card-wrong-spec : {M : Type 1} → statement M
 card-wrong-spec =
     tie.close
-    (tie.spec
-    returns
-    add-byte-at
-    byte-at-requires
-    returns-2
-    add-byte-at-2
-    byte-at-requires-2
-    returns-3
-    one-card-wrong-requires
-    returns-4)
+    (tie.spec returns (search needs) (search needs) returns-2 (search needs) (search needs) returns-3 (search needs) returns-4)

@@ -18,34 +18,13 @@ returns-3 : tie.Need-returns-3
 unfolding oneCardWrong
 returns-3 c = simp (lt-ltb _ _ (c .if3 .taken), or-true)
 
-padding-wrong-requires : tie.Need-padding-wrong-requires
-padding-wrong-requires c κs = search needs
-
 returns-4 : tie.Need-returns-4
 unfolding oneCardWrong
 returns-4 c = simp (← (c .before .padding-wrong .ensures), c .if4 .taken, or-true)
 
-cast-if5 : tie.Need-cast-if5
-cast-if5 c = search needs
-
-cast-if5-2 : tie.Need-cast-if5-2
-cast-if5-2 c = search needs
-
-add-if5 : tie.Need-add-if5
-add-if5 c = search needs
-
 returns-5 : tie.Need-returns-5
 unfolding oneCardWrong
 returns-5 c = simp (lt-ltb _ _ (c .if5 .taken), or-true)
-
-cast-result : tie.Need-cast-result
-cast-result c = search needs
-
-cast-result-2 : tie.Need-cast-result-2
-cast-result-2 c = search needs
-
-add-result : tie.Need-add-result
-add-result c = search needs
 
 returns-6 : tie.Need-returns-6
 unfolding oneCardWrong
@@ -54,17 +33,4 @@ returns-6 c = rw (le-ltb _ _ (c .before .before .before .before .before .before 
 pub one-card-wrong-spec : {M : Type 1} → statement M
 one-card-wrong-spec =
     tie.close
-    (tie.spec
-    returns
-    returns-2
-    returns-3
-    padding-wrong-requires
-    returns-4
-    cast-if5
-    cast-if5-2
-    add-if5
-    returns-5
-    cast-result
-    cast-result-2
-    add-result
-    returns-6)
+    (tie.spec returns returns-2 returns-3 (search needs) returns-4 (search needs) (search needs) (search needs) returns-5 (search needs) (search needs) (search needs) returns-6)

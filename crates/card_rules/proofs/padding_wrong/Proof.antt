@@ -21,18 +21,6 @@ abbrev μ-loop : tie.MeasureT-loop
 loop-holds : tie.Need-loop-holds Inv-loop μ-loop
 loop-holds c = (omega arith, padding-first (c .args .t1) (c .args .id-length))
 
-array-read-padding : tie.Need-array-read-padding Inv-loop μ-loop
-array-read-padding c = search needs
-
-padding-requires : tie.Need-padding-requires Inv-loop μ-loop
-padding-requires c κs = search needs
-
-add-i : tie.Need-add-i Inv-loop μ-loop
-add-i c = search needs
-
-loop-less : tie.Need-loop-less Inv-loop μ-loop
-loop-less c = search needs
-
 loop-again : tie.Need-loop-again Inv-loop μ-loop
 loop-again c =
     let l = c .before .before in
@@ -48,13 +36,4 @@ returns c =
 pub padding-wrong-spec : {M : Type 1} → statement M
 padding-wrong-spec =
     tie.close
-    (tie.spec
-    Inv-loop
-    μ-loop
-    loop-holds
-    array-read-padding
-    padding-requires
-    add-i
-    loop-less
-    loop-again
-    returns)
+    (tie.spec Inv-loop μ-loop loop-holds (search needs) (search needs) (search needs) (search needs) loop-again returns)

@@ -14,23 +14,8 @@ Inv-loop file count cards₀ least₀ i₀ total cards least i = (total ≡ coun
 abbrev μ-loop : tie.MeasureT-loop
 μ-loop file count cards₀ least₀ i₀ total cards least i = total - i
 
-no-card-requires : tie.Need-no-card-requires Inv-loop μ-loop
-no-card-requires c κs = search needs
-
 loop-holds : tie.Need-loop-holds Inv-loop μ-loop
 loop-holds c = (refl, rw (c .no-card .ensures) (seen-none _ _))
-
-mul-at : tie.Need-mul-at Inv-loop μ-loop
-mul-at c = search needs
-
-add-at : tie.Need-add-at Inv-loop μ-loop
-add-at c = search needs
-
-add-if1 : tie.Need-add-if1 Inv-loop μ-loop
-add-if1 c = search needs
-
-refused-card-requires : tie.Need-refused-card-requires Inv-loop μ-loop
-refused-card-requires c κs = search needs
 
 returns : tie.Need-returns Inv-loop μ-loop
 returns c =
@@ -38,15 +23,6 @@ returns c =
     let s = l .before .before .before .args in
     c .refused-card .ensures
     ∙ sym (seen-wrong (s .file .now) (s .count) (l .loop .cards) (l .loop .least) (l .loop .i) (omega arith) (l .loop .inv .1) (rw (lt-ltb _ _ (c .before .if1 .taken))))
-
-read-card-requires : tie.Need-read-card-requires Inv-loop μ-loop
-read-card-requires c κs = search needs
-
-card-wrong-requires : tie.Need-card-wrong-requires Inv-loop μ-loop
-card-wrong-requires c κs = search needs
-
-refused-card-requires-2 : tie.Need-refused-card-requires-2 Inv-loop μ-loop
-refused-card-requires-2 c κs = search needs
 
 returns-2 : tie.Need-returns-2 Inv-loop μ-loop
 returns-2 c =
@@ -73,12 +49,6 @@ add-least c =
     let s = l .before .before .before .args in
     omega (arith, fine-card (s .file .now) _ (l .loop .i) (l .loop .least) _ (l .loop .inv .1 .rising) (sym (c .before .before .card-wrong .ensures) ∙ c .before .if2 .left))
 
-add-i : tie.Need-add-i Inv-loop μ-loop
-add-i c = search needs
-
-loop-less : tie.Need-loop-less Inv-loop μ-loop
-loop-less c = search needs
-
 loop-again : tie.Need-loop-again Inv-loop μ-loop
 loop-again c =
     let l = c .before .before .before .before .before .before in
@@ -94,24 +64,4 @@ returns-3 c =
 pub parse-v4-cards-spec : {M : Type 1} → statement M
 parse-v4-cards-spec =
     tie.close
-    (tie.spec
-    Inv-loop
-    μ-loop
-    no-card-requires
-    loop-holds
-    mul-at
-    add-at
-    add-if1
-    refused-card-requires
-    returns
-    read-card-requires
-    card-wrong-requires
-    refused-card-requires-2
-    returns-2
-    mul-cards
-    array-set-from-cards
-    add-least
-    add-i
-    loop-less
-    loop-again
-    returns-3)
+    (tie.spec Inv-loop μ-loop (search needs) loop-holds (search needs) (search needs) (search needs) (search needs) returns (search needs) (search needs) (search needs) returns-2 mul-cards array-set-from-cards add-least (search needs) (search needs) loop-again returns-3)

@@ -3,11 +3,8 @@ use borrow.Author.Needs.{needs}
 use Rattle.cards.proofs.refused_card.Statement.{statement}
 use Rattle.cards.proofs.refused_card.Tie as tie
 
-no-cards-requires : tie.Need-no-cards-requires
-no-cards-requires c κs = search needs
-
 returns : tie.Need-returns
 returns c = rw (c .no-cards .ensures)
 
 pub refused-card-spec : {M : Type 1} → statement M
-refused-card-spec = tie.close (tie.spec no-cards-requires returns)
+refused-card-spec = tie.close (tie.spec (search needs) returns)

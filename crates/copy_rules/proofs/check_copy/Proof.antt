@@ -7,15 +7,9 @@ use Rattle.format.proofs.Decided.{decided}
 use Rattle.copy_rules.proofs.check_copy.Statement.{statement}
 use Rattle.copy_rules.proofs.check_copy.Tie as tie
 
-missing-requires : tie.Need-missing-requires
-missing-requires c κs = search needs
-
 returns : tie.Need-returns
 unfolding copyRules
 returns c = search (decided, ← (c .before .missing .ensures), c .if1 .taken)
-
-outside-requires : tie.Need-outside-requires
-outside-requires c κs = search needs
 
 returns-2 : tie.Need-returns-2
 unfolding copyRules
@@ -33,12 +27,6 @@ returns-5 : tie.Need-returns-5
 unfolding copyRules
 returns-5 c = search (decided, ← (c .before .before .before .before .missing .ensures), c .before .before .before .if1 .left, ← (c .before .before .outside .ensures), c .before .if2 .left, and-false)
 
-read-pool-requires : tie.Need-read-pool-requires
-read-pool-requires c κs = search needs
-
-copy-wrong-requires : tie.Need-copy-wrong-requires
-copy-wrong-requires c κs = search needs
-
 returns-6 : tie.Need-returns-6
 unfolding copyRules
 returns-6 c = simp (← (c .before .before .before .before .before .before .before .missing .ensures), c .before .before .before .before .before .before .if1 .left, ← (c .before .before .before .before .before .outside .ensures), c .before .before .before .before .if2 .left, and-false, lt-leb _ _ (c .before .before .before .if5 .left), ← (c .before .before .read-pool .ensures), ← (c .before .copy-wrong .ensures), c .if6 .taken)
@@ -50,15 +38,4 @@ returns-7 c = search (decided, ← (c .before .before .before .before .before .b
 pub check-copy-spec : {M : Type 1} → statement M
 check-copy-spec =
     tie.close
-    (tie.spec
-    missing-requires
-    returns
-    outside-requires
-    returns-2
-    returns-3
-    returns-4
-    returns-5
-    read-pool-requires
-    copy-wrong-requires
-    returns-6
-    returns-7)
+    (tie.spec (search needs) returns (search needs) returns-2 returns-3 returns-4 returns-5 (search needs) (search needs) returns-6 returns-7)

@@ -7,18 +7,9 @@ use Rattle.current.specs.Current.{currentBetween}
 use Rattle.current.proofs.current_between.Statement.{statement}
 use Rattle.current.proofs.current_between.Tie as tie
 
-opening-at-requires : tie.Need-opening-at-requires
-opening-at-requires c κs = search needs
-
 returns : tie.Need-returns
 unfolding currentBetween
 returns c = simp (c .before .if1 .taken, ← (c .opening-at .ensures))
-
-frames-over-requires : tie.Need-frames-over-requires
-frames-over-requires c κs = search needs
-
-no-current-requires : tie.Need-no-current-requires
-no-current-requires c κs = search needs
 
 returns-2 : tie.Need-returns-2
 unfolding currentBetween
@@ -26,15 +17,6 @@ returns-2 c =
     let a = c .before .before .before .before .before .before .args in
     let more = ltb (a .progress .«frame_index») (a .header .«frame_count») in
     simp (c .before .before .before .if1 .left, frames-end (a .file .now) (a .progress .cursor) (a .header .«frame_start») (a .progress .«frame_index») more (a .header .repeat) (sym (c .before .before .frames-over .ensures) ∙ c .before .if2 .taken), ← (c .no-current .ensures))
-
-next-place-requires : tie.Need-next-place-requires
-next-place-requires c κs = search needs
-
-next-frame-requires : tie.Need-next-frame-requires
-next-frame-requires c κs = search needs
-
-frame-at-requires : tie.Need-frame-at-requires
-frame-at-requires c κs = search needs
 
 returns-3 : tie.Need-returns-3
 unfolding currentBetween
@@ -46,13 +28,4 @@ returns-3 c =
 pub current-between-spec : {M : Type 1} → statement M
 current-between-spec =
     tie.close
-    (tie.spec
-    opening-at-requires
-    returns
-    frames-over-requires
-    no-current-requires
-    returns-2
-    next-place-requires
-    next-frame-requires
-    frame-at-requires
-    returns-3)
+    (tie.spec (search needs) returns (search needs) (search needs) returns-2 (search needs) (search needs) (search needs) returns-3)

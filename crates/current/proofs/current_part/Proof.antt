@@ -5,32 +5,17 @@ use Rattle.current.specs.Current.{currentOf}
 use Rattle.current.proofs.current_part.Statement.{statement}
 use Rattle.current.proofs.current_part.Tie as tie
 
-no-current-requires : tie.Need-no-current-requires
-no-current-requires c κs = search needs
-
 returns : tie.Need-returns
 unfolding currentOf
 returns c = simp (c .before .if1 .taken, ← (c .no-current .ensures))
-
-foreign-requires : tie.Need-foreign-requires
-foreign-requires c κs = search needs
-
-no-current-requires-2 : tie.Need-no-current-requires-2
-no-current-requires-2 c κs = search needs
 
 returns-2 : tie.Need-returns-2
 unfolding currentOf
 returns-2 c = simp (c .before .before .before .if1 .left, ← (c .before .before .foreign .ensures), c .before .if2 .taken, ← (c .no-current2 .ensures))
 
-current-between-requires : tie.Need-current-between-requires
-current-between-requires c κs = search needs
-
 returns-3 : tie.Need-returns-3
 unfolding currentOf
 returns-3 c = simp (c .before .before .before .before .before .if1 .left, ← (c .before .before .before .before .foreign .ensures), c .before .before .before .if2 .left, eq-eqb _ _ (c .before .if3 .taken), ← (c .current-between .ensures))
-
-under-way-requires : tie.Need-under-way-requires
-under-way-requires c κs = search needs
 
 returns-4 : tie.Need-returns-4
 unfolding currentOf
@@ -39,13 +24,4 @@ returns-4 c = simp (c .before .before .before .before .before .if1 .left, ← (c
 pub current-part-spec : {M : Type 1} → statement M
 current-part-spec =
     tie.close
-    (tie.spec
-    no-current-requires
-    returns
-    foreign-requires
-    no-current-requires-2
-    returns-2
-    current-between-requires
-    returns-3
-    under-way-requires
-    returns-4)
+    (tie.spec (search needs) returns (search needs) (search needs) returns-2 (search needs) returns-3 (search needs) returns-4)

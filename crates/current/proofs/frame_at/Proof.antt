@@ -8,35 +8,17 @@ use Rattle.current.specs.Current.{frameAt}
 use Rattle.current.proofs.frame_at.Statement.{statement}
 use Rattle.current.proofs.frame_at.Tie as tie
 
-no-current-requires : tie.Need-no-current-requires
-no-current-requires c κs = search needs
-
 returns : tie.Need-returns
 unfolding frameAt
 returns c =
     let a = c .before .before .before .args in
     rw (lt-ltb (length (a .file .now)) (a .at + 2) (omega (arith, c .before .if1 .taken))) (c .no-current .ensures)
 
-sub-if2 : tie.Need-sub-if2
-sub-if2 c = search needs
-
-no-current-requires-2 : tie.Need-no-current-requires-2
-no-current-requires-2 c κs = search needs
-
 returns-2 : tie.Need-returns-2
 unfolding frameAt
 returns-2 c =
     let a = c .before .before .before .before .args in
     rw (lt-ltb (length (a .file .now)) (a .at + 2) (omega (arith, c .before .if2 .taken, c .before .before .if1 .left))) (c .no-current2 .ensures)
-
-read-u16-requires : tie.Need-read-u16-requires
-read-u16-requires c κs = search needs
-
-cast-total : tie.Need-cast-total
-cast-total c = search needs
-
-add-t7 : tie.Need-add-t7
-add-t7 c = search needs
 
 returns-3 : tie.Need-returns-3
 unfolding frameAt
@@ -47,13 +29,4 @@ returns-3 c =
 pub frame-at-spec : {M : Type 1} → statement M
 frame-at-spec =
     tie.close
-    (tie.spec
-    no-current-requires
-    returns
-    sub-if2
-    no-current-requires-2
-    returns-2
-    read-u16-requires
-    cast-total
-    add-t7
-    returns-3)
+    (tie.spec (search needs) returns (search needs) (search needs) returns-2 (search needs) (search needs) (search needs) returns-3)

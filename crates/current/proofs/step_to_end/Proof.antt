@@ -5,9 +5,6 @@ use Rattle.current.specs.Step.{stepEnding}
 use Rattle.current.proofs.step_to_end.Statement.{statement}
 use Rattle.current.proofs.step_to_end.Tie as tie
 
-no-step-requires : tie.Need-no-step-requires
-no-step-requires c κs = search needs
-
 returns : tie.Need-returns
 unfolding stepEnding
 returns c = simp (eq-eqb _ _ (c .before .if1 .taken), ← (c .no-step .ensures))
@@ -17,4 +14,4 @@ unfolding stepEnding
 returns-2 c = simp (ne-eqb _ _ (c .if1 .left))
 
 pub step-to-end-spec : {M : Type 1} → statement M
-step-to-end-spec = tie.close (tie.spec no-step-requires returns returns-2)
+step-to-end-spec = tie.close (tie.spec (search needs) returns returns-2)

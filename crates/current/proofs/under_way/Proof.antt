@@ -5,32 +5,17 @@ use Rattle.current.specs.Current.{underWay}
 use Rattle.current.proofs.under_way.Statement.{statement}
 use Rattle.current.proofs.under_way.Tie as tie
 
-opening-end-requires : tie.Need-opening-end-requires
-opening-end-requires c κs = search needs
-
-going-on-requires : tie.Need-going-on-requires
-going-on-requires c κs = search needs
-
 returns : tie.Need-returns
 unfolding underWay
 returns c = simp (eq-eqb _ _ (c .before .before .if1 .taken), ← (c .before .opening-end .ensures), ← (c .going-on .ensures))
-
-no-current-requires : tie.Need-no-current-requires
-no-current-requires c κs = search needs
 
 returns-2 : tie.Need-returns-2
 unfolding underWay
 returns-2 c = simp (ne-eqb _ _ (c .before .before .if1 .left), ne-eqb _ _ (c .before .if2 .taken), ← (c .no-current .ensures))
 
-no-current-requires-2 : tie.Need-no-current-requires-2
-no-current-requires-2 c κs = search needs
-
 returns-3 : tie.Need-returns-3
 unfolding underWay
 returns-3 c = simp (ne-eqb _ _ (c .before .before .before .before .if1 .left), eq-eqb _ _ (c .before .before .before .if2 .left), c .before .if3 .taken, ← (c .no-current2 .ensures))
-
-going-on-requires-2 : tie.Need-going-on-requires-2
-going-on-requires-2 c κs = search needs
 
 returns-4 : tie.Need-returns-4
 unfolding underWay
@@ -39,13 +24,4 @@ returns-4 c = simp (ne-eqb _ _ (c .before .before .before .before .if1 .left), e
 pub under-way-spec : {M : Type 1} → statement M
 under-way-spec =
     tie.close
-    (tie.spec
-    opening-end-requires
-    going-on-requires
-    returns
-    no-current-requires
-    returns-2
-    no-current-requires-2
-    returns-3
-    going-on-requires-2
-    returns-4)
+    (tie.spec (search needs) (search needs) returns (search needs) returns-2 (search needs) returns-3 (search needs) returns-4)

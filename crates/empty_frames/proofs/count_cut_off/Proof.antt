@@ -11,9 +11,6 @@ use Rattle.empty_frames.proofs.count_cut_off.Tie as tie
 returns : tie.Need-returns
 returns c = sym (lt-ltb (length (c .before .args .file .now)) (c .before .args .at + 2) (omega arith))
 
-sub-if2 : tie.Need-sub-if2
-sub-if2 c = search needs
-
 returns-2 : tie.Need-returns-2
 returns-2 c = sym (lt-ltb (length (c .before .before .args .file .now)) (c .before .before .args .at + 2) (omega arith))
 
@@ -21,4 +18,4 @@ returns-3 : tie.Need-returns-3
 returns-3 c = sym (le-ltb (length (c .before .before .args .file .now)) (c .before .before .args .at + 2) (omega arith))
 
 pub count-cut-off-spec : {M : Type 1} → statement M
-count-cut-off-spec = tie.close (tie.spec returns sub-if2 returns-2 returns-3)
+count-cut-off-spec = tie.close (tie.spec returns (search needs) returns-2 returns-3)

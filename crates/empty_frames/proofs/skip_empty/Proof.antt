@@ -20,17 +20,11 @@ abbrev μ-loop : tie.MeasureT-loop
 loop-holds : tie.Need-loop-holds Inv-loop μ-loop
 loop-holds c = refl
 
-count-cut-off-requires : tie.Need-count-cut-off-requires Inv-loop μ-loop
-count-cut-off-requires c κs = search needs
-
 returns : tie.Need-returns Inv-loop μ-loop
 returns c =
     let l = c .before .before .before in
     let file = l .before .before .args .file .now in
     rw (l .loop .inv, skip-stops file (l .loop .left) (l .loop .at) (rw (sym (c .before .count-cut-off .ensures) ∙ c .if1 .taken, or-true)) (omega arith))
-
-read-u16-requires : tie.Need-read-u16-requires Inv-loop μ-loop
-read-u16-requires c κs = search needs
 
 returns-2 : tie.Need-returns-2 Inv-loop μ-loop
 returns-2 c =
@@ -44,12 +38,6 @@ add-at c =
     let l = cut .before .before in
     let file = l .before .before .args .file .now in
     omega (arith, ltb-false (length file) (l .loop .at + 2) (sym (cut .count-cut-off .ensures) ∙ c .before .before .if1 .left))
-
-sub-left : tie.Need-sub-left Inv-loop μ-loop
-sub-left c = search needs
-
-loop-less : tie.Need-loop-less Inv-loop μ-loop
-loop-less c = search needs
 
 loop-again : tie.Need-loop-again Inv-loop μ-loop
 loop-again c =
@@ -66,16 +54,4 @@ returns-3 c =
 pub skip-empty-spec : {M : Type 1} → statement M
 skip-empty-spec =
     tie.close
-    (tie.spec
-    Inv-loop
-    μ-loop
-    loop-holds
-    count-cut-off-requires
-    returns
-    read-u16-requires
-    returns-2
-    add-at
-    sub-left
-    loop-less
-    loop-again
-    returns-3)
+    (tie.spec Inv-loop μ-loop loop-holds (search needs) returns (search needs) returns-2 add-at (search needs) (search needs) loop-again returns-3)

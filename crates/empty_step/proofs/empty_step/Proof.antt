@@ -8,55 +8,25 @@ use Rattle.empty_step.specs.Empty.{emptyOf}
 use Rattle.empty_step.proofs.empty_step.Statement.{statement}
 use Rattle.empty_step.proofs.empty_step.Tie as tie
 
-no-empty-requires : tie.Need-no-empty-requires
-no-empty-requires c κs = search needs
-
 returns : tie.Need-returns
 unfolding emptyOf
 returns c = simp (ne-eqb _ _ (c .before .if1 .taken), ← (c .no-empty .ensures))
-
-behind-frame-requires : tie.Need-behind-frame-requires
-behind-frame-requires c κs = search needs
-
-no-empty-requires-2 : tie.Need-no-empty-requires-2
-no-empty-requires-2 c κs = search needs
 
 returns-2 : tie.Need-returns-2
 unfolding emptyOf
 returns-2 c = simp (eq-eqb _ _ (c .before .before .before .if1 .left), ← (c .before .before .behind-frame .ensures), c .before .if2 .taken, ← (c .no-empty2 .ensures))
 
-no-empty-requires-3 : tie.Need-no-empty-requires-3
-no-empty-requires-3 c κs = search needs
-
 returns-3 : tie.Need-returns-3
 unfolding emptyOf
 returns-3 c = simp (eq-eqb _ _ (c .before .before .before .before .before .before .if1 .left), ← (c .before .before .before .before .before .behind-frame .ensures), c .before .before .before .before .if2 .left, le-leb _ _ (c .before .if3 .taken), ← (c .no-empty3 .ensures))
-
-foreign-requires : tie.Need-foreign-requires
-foreign-requires c κs = search needs
-
-no-empty-requires-4 : tie.Need-no-empty-requires-4
-no-empty-requires-4 c κs = search needs
 
 returns-4 : tie.Need-returns-4
 unfolding emptyOf
 returns-4 c = simp (eq-eqb _ _ (c .before .before .before .before .before .before .before .before .if1 .left), ← (c .before .before .before .before .before .before .before .behind-frame .ensures), c .before .before .before .before .before .before .if2 .left, lt-leb _ _ (c .before .before .before .if3 .left), ← (c .before .before .foreign .ensures), c .before .if4 .taken, ← (c .no-empty4 .ensures))
 
-passes-requires : tie.Need-passes-requires
-passes-requires c κs = search needs
-
-no-empty-requires-5 : tie.Need-no-empty-requires-5
-no-empty-requires-5 c κs = search needs
-
 returns-5 : tie.Need-returns-5
 unfolding emptyOf
 returns-5 c = simp (eq-eqb _ _ (c .before .before .before .before .before .before .before .before .before .before .if1 .left), ← (c .before .before .before .before .before .before .before .before .before .behind-frame .ensures), c .before .before .before .before .before .before .before .before .if2 .left, lt-leb _ _ (c .before .before .before .before .before .if3 .left), ← (c .before .before .before .before .foreign .ensures), c .before .before .before .if4 .left, ← (c .before .before .passes .ensures), c .before .if5 .taken, ← (c .no-empty5 .ensures))
-
-read-u16-requires : tie.Need-read-u16-requires
-read-u16-requires c κs = search needs
-
-no-empty-requires-6 : tie.Need-no-empty-requires-6
-no-empty-requires-6 c κs = search needs
 
 returns-6 : tie.Need-returns-6
 unfolding emptyOf
@@ -67,9 +37,6 @@ add-t8 c =
     let a = c .before .before .before .before .before .before .before .before .before .before .before .before .before .before .before .args in
     omega (arith, ltb-false (length (a .file .now)) (a .progress .cursor + 2) (sym (c .before .before .before .before .passes .ensures) ∙ c .before .before .before .if5 .left))
 
-add-t11 : tie.Need-add-t11
-add-t11 c = search needs
-
 returns-7 : tie.Need-returns-7
 unfolding emptyOf
 returns-7 c = simp (eq-eqb _ _ (c .before .before .before .before .before .before .before .before .before .before .before .before .before .if1 .left), ← (c .before .before .before .before .before .before .before .before .before .before .before .before .behind-frame .ensures), c .before .before .before .before .before .before .before .before .before .before .before .if2 .left, lt-leb _ _ (c .before .before .before .before .before .before .before .before .if3 .left), ← (c .before .before .before .before .before .before .before .foreign .ensures), c .before .before .before .before .before .before .if4 .left, ← (c .before .before .before .before .before .passes .ensures), c .before .before .before .before .if5 .left, ← (c .before .before .before .read-u16 .ensures), eq-eqb _ _ (c .before .before .if6 .left))
@@ -77,23 +44,4 @@ returns-7 c = simp (eq-eqb _ _ (c .before .before .before .before .before .befor
 pub empty-step-spec : {M : Type 1} → statement M
 empty-step-spec =
     tie.close
-    (tie.spec
-    no-empty-requires
-    returns
-    behind-frame-requires
-    no-empty-requires-2
-    returns-2
-    no-empty-requires-3
-    returns-3
-    foreign-requires
-    no-empty-requires-4
-    returns-4
-    passes-requires
-    no-empty-requires-5
-    returns-5
-    read-u16-requires
-    no-empty-requires-6
-    returns-6
-    add-t8
-    add-t11
-    returns-7)
+    (tie.spec (search needs) returns (search needs) (search needs) returns-2 (search needs) returns-3 (search needs) (search needs) returns-4 (search needs) (search needs) returns-5 (search needs) (search needs) returns-6 add-t8 (search needs) returns-7)

@@ -48,17 +48,11 @@ low e =
 loop-holds : tie.Need-loop-holds Inv-loop μ-loop
 loop-holds c = refl
 
-stopped-requires : tie.Need-stopped-requires Inv-loop μ-loop
-stopped-requires c κs = search needs
-
 returns : tie.Need-returns Inv-loop μ-loop
 returns c =
     let l = c .before .before .before in
     let a = l .before .before .args in
     rw (c .stopped .ensures, l .loop .inv, c .before .if1 .taken, fills-full (a .file .now) (a .width) (a .starts .now) (a .ends .now) (a .limit) (l .loop .others))
-
-stopped-requires-2 : tie.Need-stopped-requires-2 Inv-loop μ-loop
-stopped-requires-2 c κs = search needs
 
 returns-2 : tie.Need-returns-2 Inv-loop μ-loop
 returns-2 c =
@@ -67,24 +61,12 @@ returns-2 c =
     let none : leb (countOn (l .before) (l .loop .at)) (l .loop .done) ≡ true = rw (count-past (a .file .now) (a .width) (a .starts .now) (a .ends .now) (a .limit) (l .loop .at) (lt-ltb (a .limit) (l .loop .at + 16) (omega arith))) (le-leb 0 (l .loop .done) (omega arith)) in
     rw (l .loop .inv, fills-none (a .file .now) (a .width) (a .starts .now) (a .ends .now) (a .limit) (l .loop .others) (l .loop .free) (l .loop .at) (l .loop .done) (omega arith) (omega arith) none) (c .stopped2 .ensures)
 
-stopped-requires-3 : tie.Need-stopped-requires-3 Inv-loop μ-loop
-stopped-requires-3 c κs = search needs
-
 returns-3 : tie.Need-returns-3 Inv-loop μ-loop
 returns-3 c =
     let l = c .before .before .before .before .before in
     let a = l .before .before .args in
     let none : leb (countOn (l .before) (l .loop .at)) (l .loop .done) ≡ true = rw (count-past (a .file .now) (a .width) (a .starts .now) (a .ends .now) (a .limit) (l .loop .at) (lt-ltb (a .limit) (l .loop .at + 16) (omega arith))) (le-leb 0 (l .loop .done) (omega arith)) in
     rw (l .loop .inv, fills-none (a .file .now) (a .width) (a .starts .now) (a .ends .now) (a .limit) (l .loop .others) (l .loop .free) (l .loop .at) (l .loop .done) (omega arith) (omega arith) none) (c .stopped3 .ensures)
-
-window-requires : tie.Need-window-requires Inv-loop μ-loop
-window-requires c κs = search needs
-
-fill-count-requires : tie.Need-fill-count-requires Inv-loop μ-loop
-fill-count-requires c κs = search needs
-
-stopped-requires-4 : tie.Need-stopped-requires-4 Inv-loop μ-loop
-stopped-requires-4 c κs = search needs
 
 returns-4 : tie.Need-returns-4 Inv-loop μ-loop
 returns-4 c =
@@ -93,21 +75,6 @@ returns-4 c =
     let q = c .before .before in
     let none : leb (countOn (l .before) (l .loop .at)) (l .loop .done) ≡ true = rw (said q, le-leb _ _ (c .before .if4 .taken)) in
     rw (l .loop .inv, fills-none (a .file .now) (a .width) (a .starts .now) (a .ends .now) (a .limit) (l .loop .others) (l .loop .free) (l .loop .at) (l .loop .done) (omega arith) (omega arith) none) (c .stopped4 .ensures)
-
-sub-rest : tie.Need-sub-rest Inv-loop μ-loop
-sub-rest c = search needs
-
-cast-if5 : tie.Need-cast-if5 Inv-loop μ-loop
-cast-if5 c = search needs
-
-cast-stopped : tie.Need-cast-stopped Inv-loop μ-loop
-cast-stopped c = search needs
-
-add-stopped : tie.Need-add-stopped Inv-loop μ-loop
-add-stopped c = search needs
-
-stopped-requires-5 : tie.Need-stopped-requires-5 Inv-loop μ-loop
-stopped-requires-5 c κs = search needs
 
 returns-5 : tie.Need-returns-5 Inv-loop μ-loop
 returns-5 c =
@@ -119,21 +86,6 @@ returns-5 c =
     let step = fills-step (a .file .now) (a .width) (a .starts .now) (a .ends .now) (a .limit) (l .loop .others) (l .loop .free) (l .loop .at) (l .loop .done) (omega arith) (omega arith) some in
     rw (l .loop .inv, step, said q, lt-ltb _ _ (c .before .if5 .taken)) (c .stopped5 .ensures)
 
-cast-free : tie.Need-cast-free Inv-loop μ-loop
-cast-free c = search needs
-
-sub-free : tie.Need-sub-free Inv-loop μ-loop
-sub-free c = search needs
-
-add-at : tie.Need-add-at Inv-loop μ-loop
-add-at c = search needs
-
-byte-at-requires : tie.Need-byte-at-requires Inv-loop μ-loop
-byte-at-requires c κs = search needs
-
-cast-at : tie.Need-cast-at Inv-loop μ-loop
-cast-at c = search needs
-
 mul-at : tie.Need-mul-at Inv-loop μ-loop
 mul-at c = omega (arith, c .byte-at .ensures, low (c .before))
 
@@ -142,12 +94,6 @@ add-at-2 c = omega (arith, c .byte-at .ensures, low (c .before))
 
 add-at-3 : tie.Need-add-at-3 Inv-loop μ-loop
 add-at-3 c = omega (arith, c .byte-at .ensures, low (c .before))
-
-sub-others : tie.Need-sub-others Inv-loop μ-loop
-sub-others c = search needs
-
-loop-less : tie.Need-loop-less Inv-loop μ-loop
-loop-less c = search needs
 
 loop-again : tie.Need-loop-again Inv-loop μ-loop
 loop-again c =
@@ -161,9 +107,6 @@ loop-again c =
     let step = fills-step (a .file .now) (a .width) (a .starts .now) (a .ends .now) (a .limit) (l .loop .others) (l .loop .free) (l .loop .at) (l .loop .done) (omega arith) (omega arith) some in
     rw (l .loop .inv, step, said q, le-ltb _ _ (c .before .if5 .left), opcode)
 
-stopped-requires-6 : tie.Need-stopped-requires-6 Inv-loop μ-loop
-stopped-requires-6 c κs = search needs
-
 returns-6 : tie.Need-returns-6 Inv-loop μ-loop
 returns-6 c =
     let l = c .before .before in
@@ -174,36 +117,4 @@ returns-6 c =
 pub fills-from-spec : {M : Type 1} → statement M
 fills-from-spec =
     tie.close
-    (tie.spec
-    Inv-loop
-    μ-loop
-    loop-holds
-    stopped-requires
-    returns
-    stopped-requires-2
-    returns-2
-    stopped-requires-3
-    returns-3
-    window-requires
-    fill-count-requires
-    stopped-requires-4
-    returns-4
-    sub-rest
-    cast-if5
-    cast-stopped
-    add-stopped
-    stopped-requires-5
-    returns-5
-    cast-free
-    sub-free
-    add-at
-    byte-at-requires
-    cast-at
-    mul-at
-    add-at-2
-    add-at-3
-    sub-others
-    loop-less
-    loop-again
-    stopped-requires-6
-    returns-6)
+    (tie.spec Inv-loop μ-loop loop-holds (search needs) returns (search needs) returns-2 (search needs) returns-3 (search needs) (search needs) (search needs) returns-4 (search needs) (search needs) (search needs) (search needs) (search needs) returns-5 (search needs) (search needs) (search needs) (search needs) (search needs) mul-at add-at-2 add-at-3 (search needs) (search needs) loop-again (search needs) returns-6)

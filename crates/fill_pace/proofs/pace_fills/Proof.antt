@@ -6,28 +6,13 @@ use Rattle.fill_pace.specs.Fills.{fillsPaced}
 use Rattle.fill_pace.proofs.pace_fills.Statement.{statement}
 use Rattle.fill_pace.proofs.pace_fills.Tie as tie
 
-stopped-requires : tie.Need-stopped-requires
-stopped-requires c κs = search needs
-
 returns : tie.Need-returns
 unfolding fillsPaced
 returns c = rw (lt-leb 2 (c .before .before .before .args .version) (c .before .if1 .taken)) (c .stopped .ensures)
 
-stopped-requires-2 : tie.Need-stopped-requires-2
-stopped-requires-2 c κs = search needs
-
 returns-2 : tie.Need-returns-2
 unfolding fillsPaced
 returns-2 c = rw (lt-leb (c .before .before .before .before .args .version) 4 (c .before .if2 .taken), and-false) (c .stopped2 .ensures)
-
-address-ranges-requires : tie.Need-address-ranges-requires
-address-ranges-requires c κs = search needs
-
-address-width-requires : tie.Need-address-width-requires
-address-width-requires c κs = search needs
-
-fills-from-requires : tie.Need-fills-from-requires
-fills-from-requires c κs = search needs
 
 returns-3 : tie.Need-returns-3
 unfolding fillsPaced
@@ -41,12 +26,4 @@ returns-3 c =
 pub pace-fills-spec : {M : Type 1} → statement M
 pace-fills-spec =
     tie.close
-    (tie.spec
-    stopped-requires
-    returns
-    stopped-requires-2
-    returns-2
-    address-ranges-requires
-    address-width-requires
-    fills-from-requires
-    returns-3)
+    (tie.spec (search needs) returns (search needs) returns-2 (search needs) (search needs) (search needs) returns-3)

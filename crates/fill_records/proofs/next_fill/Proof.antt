@@ -13,18 +13,9 @@ use Rattle.fill_records.proofs.next_fill.Tie as tie
 within : (c : tie.Else2) → c .before .before .before .before .before .args .place .cursor + 16 ≤ length (c .before .before .before .before .before .args .file .now)
 within c = ltb-false _ _ (sym (c .before .passes .ensures) ∙ c .if2 .left)
 
-following-requires : tie.Need-following-requires
-following-requires c κs = search needs
-
 returns : tie.Need-returns
 unfolding nextFill
 returns c = rw (lt-ltb _ _ (c .before .if1 .taken)) (c .following .ensures)
-
-passes-requires : tie.Need-passes-requires
-passes-requires c κs = search needs
-
-fill-place-requires : tie.Need-fill-place-requires
-fill-place-requires c κs = search needs
 
 returns-2 : tie.Need-returns-2
 unfolding nextFill
@@ -34,9 +25,6 @@ returns-2 c =
 
 window-requires : tie.Need-window-requires
 window-requires c κs = within c
-
-address-width-requires : tie.Need-address-width-requires
-address-width-requires c κs = search needs
 
 decoded-requires : tie.Need-decoded-requires
 decoded-requires c κs =
@@ -54,13 +42,4 @@ returns-3 c =
 pub next-fill-spec : {M : Type 1} → statement M
 next-fill-spec =
     tie.close
-    (tie.spec
-    following-requires
-    returns
-    passes-requires
-    fill-place-requires
-    returns-2
-    window-requires
-    address-width-requires
-    decoded-requires
-    returns-3)
+    (tie.spec (search needs) returns (search needs) (search needs) returns-2 window-requires (search needs) decoded-requires returns-3)

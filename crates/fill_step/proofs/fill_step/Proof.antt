@@ -9,31 +9,13 @@ use Rattle.fill_step.specs.FillStep.{leftOf, fillStep}
 use Rattle.fill_step.proofs.fill_step.Statement.{statement}
 use Rattle.fill_step.proofs.fill_step.Tie as tie
 
-no-step-requires : tie.Need-no-step-requires
-no-step-requires c κs = search needs
-
 returns : tie.Need-returns
 unfolding fillStep
 returns c = simp (c .before .if1 .taken, ← (c .no-step .ensures))
 
-byte-at-requires : tie.Need-byte-at-requires
-byte-at-requires c κs = search needs
-
-no-step-requires-2 : tie.Need-no-step-requires-2
-no-step-requires-2 c κs = search needs
-
 returns-2 : tie.Need-returns-2
 unfolding fillStep
 returns-2 c = simp (c .before .before .before .if1 .left, ← (c .before .before .byte-at .ensures), lt-leb _ _ (c .before .if2 .taken), lt-ltb _ _ (c .before .if2 .taken), ← (c .no-step2 .ensures))
-
-sub-left : tie.Need-sub-left
-sub-left c = search needs
-
-pace-fills-requires : tie.Need-pace-fills-requires
-pace-fills-requires c κs = search needs
-
-no-step-requires-3 : tie.Need-no-step-requires-3
-no-step-requires-3 c κs = search needs
 
 returns-3 : tie.Need-returns-3
 unfolding fillStep
@@ -63,16 +45,4 @@ returns-4 c =
 pub fill-step-spec : {M : Type 1} → statement M
 fill-step-spec =
     tie.close
-    (tie.spec
-    no-step-requires
-    returns
-    byte-at-requires
-    no-step-requires-2
-    returns-2
-    sub-left
-    pace-fills-requires
-    no-step-requires-3
-    returns-3
-    sub-count
-    step-to-requires
-    returns-4)
+    (tie.spec (search needs) returns (search needs) (search needs) returns-2 (search needs) (search needs) (search needs) returns-3 sub-count step-to-requires returns-4)

@@ -33,9 +33,6 @@ abbrev μ-loop : tie.MeasureT-loop
 loop-holds : tie.Need-loop-holds Inv-loop μ-loop
 loop-holds c = refl
 
-skip-empty-requires : tie.Need-skip-empty-requires Inv-loop μ-loop
-skip-empty-requires c κs = search needs
-
 -- behind the empty frames
 behind : (k : tie.After-skip-empty Inv-loop μ-loop)
     → let l = k .before .before in
@@ -49,9 +46,6 @@ behind k =
 -- a frame is left
 some : (k : tie.After-skip-empty Inv-loop μ-loop) → 0 < k .skip-empty .result .left
 some k = rw (k .skip-empty .ensures) (behind k .some)
-
-count-cut-off-requires : tie.Need-count-cut-off-requires Inv-loop μ-loop
-count-cut-off-requires c κs = search needs
 
 -- the first of the frames that are left, and the others
 first : (k : tie.After-skip-empty Inv-loop μ-loop)
@@ -70,20 +64,11 @@ first k =
 returns : tie.Need-returns Inv-loop μ-loop
 returns c = rw (first (c .before .before), ← (c .before .count-cut-off .ensures), c .if1 .taken)
 
-read-u16-requires : tie.Need-read-u16-requires Inv-loop μ-loop
-read-u16-requires c κs = search needs
-
-cast-count : tie.Need-cast-count Inv-loop μ-loop
-cast-count c = search needs
-
 add-frame-run : tie.Need-add-frame-run Inv-loop μ-loop
 add-frame-run c =
     let cut = c .before .before .before in
     let k = cut .before in
     omega (arith, ltb-false (length (k .before .before .before .before .args .file .now)) (k .skip-empty .result .at + 2) (sym (cut .count-cut-off .ensures) ∙ c .before .before .if1 .left))
-
-frame-run-requires : tie.Need-frame-run-requires Inv-loop μ-loop
-frame-run-requires c κs = search needs
 
 -- a frame whose count is there: what was passed quickly, its other operations, and then the frames behind it
 step : (f : tie.After-frame-run Inv-loop μ-loop)
@@ -102,12 +87,6 @@ step f =
     let h = s .header in
     rw (first k, ← (read .before .before .count-cut-off .ensures), read .before .if1 .left, ← (read .read-u16 .ensures), quick-ran (h .version) (cardsOf (s .cards)) (h .«pool_count») (h .«directory_offset») (s .file .now) (s .limits .now) (s .starts .now) (s .ends .now) (s .kinds .now) (length (s .file .now)) (read .read-u16 .result) (k .skip-empty .result .at + 2) (start .pre), ← (f .frame-run .ensures))
 
-either-requires : tie.Need-either-requires Inv-loop μ-loop
-either-requires c κs = search needs
-
-check-operations-requires : tie.Need-check-operations-requires Inv-loop μ-loop
-check-operations-requires c κs = search needs
-
 -- operations that were not passed quickly
 slow : (c : tie.After-check-operations Inv-loop μ-loop)
     → let f = c .before .before .before .before in
@@ -122,15 +101,6 @@ slow c =
     let s = f .before .before .before .before .before .before .before .before .before .args in
     let run = f .frame-run .result in
     rw (step f, walked-with (run .si22) (settingOf (s .file .now) (s .header) (s .cards)) (s .file .now) (length (s .file .now)) (run .left) (run .at), ← (c .check-operations .ensures))
-
-enum-known-place : tie.Need-enum-known-place Inv-loop μ-loop
-enum-known-place c = search needs
-
-either-requires-2 : tie.Need-either-requires-2 Inv-loop μ-loop
-either-requires-2 c κs = search needs
-
-enum-known-refusal : tie.Need-enum-known-refusal Inv-loop μ-loop
-enum-known-refusal c = search needs
 
 returns-2 : tie.Need-returns-2 Inv-loop μ-loop
 returns-2 c = rw (slow (c .before .before .before), c .before .refusal .given .1)
@@ -167,24 +137,4 @@ returns-3 c =
 pub check-frames-spec : {M : Type 1} → statement M
 check-frames-spec =
     tie.close
-    (tie.spec
-    Inv-loop
-    μ-loop
-    loop-holds
-    skip-empty-requires
-    count-cut-off-requires
-    returns
-    read-u16-requires
-    cast-count
-    add-frame-run
-    frame-run-requires
-    either-requires
-    check-operations-requires
-    enum-known-place
-    either-requires-2
-    enum-known-refusal
-    returns-2
-    sub-left
-    loop-less
-    loop-again
-    returns-3)
+    (tie.spec Inv-loop μ-loop loop-holds (search needs) (search needs) returns (search needs) (search needs) add-frame-run (search needs) (search needs) (search needs) (search needs) (search needs) (search needs) returns-2 sub-left loop-less loop-again returns-3)

@@ -11,11 +11,5 @@ returns c =
     let a = c .before .before .args in
     rw (c .if1 .taken) (sym (quick-none (a .version) (a .pools) (a .directory) (a .file .now) (a .limits .now) (a .starts .now) (a .ends .now) (a .kinds .now) (length (a .file .now)) (a .at)))
 
-quick-run-requires : tie.Need-quick-run-requires
-quick-run-requires c κs = search needs
-
-returns-2 : tie.Need-returns-2
-returns-2 c = search needs
-
 pub frame-run-spec : {M : Type 1} → statement M
-frame-run-spec = tie.close (tie.spec returns quick-run-requires returns-2)
+frame-run-spec = tie.close (tie.spec returns (search needs) (λ c. search needs))

@@ -5,18 +5,9 @@ use Rattle.format.specs.Header.{headerFrom}
 use Rattle.header.proofs.read_header.Statement.{statement}
 use Rattle.header.proofs.read_header.Tie as tie
 
-byte-at-requires : tie.Need-byte-at-requires
-byte-at-requires c κs = search needs
-
-header-size-requires : tie.Need-header-size-requires
-header-size-requires c κs = search needs
-
 returns : tie.Need-returns
 unfolding headerFrom
 returns c = simp (← (c .before .before .byte-at .ensures), ← (c .before .header-size .ensures), lt-ltb _ _ (c .if1 .taken))
-
-read-u32-requires : tie.Need-read-u32-requires
-read-u32-requires c κs = search needs
 
 returns-2 : tie.Need-returns-2
 unfolding headerFrom
@@ -30,25 +21,13 @@ returns-4 : tie.Need-returns-4
 unfolding headerFrom
 returns-4 c = simp (← (c .before .before .before .before .before .before .byte-at .ensures), ← (c .before .before .before .before .before .header-size .ensures), le-ltb _ _ (c .before .before .before .before .if1 .left), ← (c .before .before .before .read-u32 .ensures), eq-eqb _ _ (c .before .before .if2 .left), ne-eqb _ _ (c .before .if3 .left), lt-ltb _ _ (c .if4 .taken))
 
-byte-at-requires-2 : tie.Need-byte-at-requires-2
-byte-at-requires-2 c κs = search needs
-
 returns-5 : tie.Need-returns-5
 unfolding headerFrom
 returns-5 c = simp (← (c .before .before .before .before .before .before .before .before .byte-at .ensures), ← (c .before .before .before .before .before .before .before .header-size .ensures), le-ltb _ _ (c .before .before .before .before .before .before .if1 .left), ← (c .before .before .before .before .before .read-u32 .ensures), eq-eqb _ _ (c .before .before .before .before .if2 .left), ne-eqb _ _ (c .before .before .before .if3 .left), le-ltb _ _ (c .before .before .if4 .left), ← (c .before .byte-at2 .ensures), ne-eqb _ _ (c .if5 .taken))
 
-flags-wrong-requires : tie.Need-flags-wrong-requires
-flags-wrong-requires c κs = search needs
-
 returns-6 : tie.Need-returns-6
 unfolding headerFrom
 returns-6 c = simp (← (c .before .before .before .before .before .before .before .before .before .before .byte-at .ensures), ← (c .before .before .before .before .before .before .before .before .before .header-size .ensures), le-ltb _ _ (c .before .before .before .before .before .before .before .before .if1 .left), ← (c .before .before .before .before .before .before .before .read-u32 .ensures), eq-eqb _ _ (c .before .before .before .before .before .before .if2 .left), ne-eqb _ _ (c .before .before .before .before .before .if3 .left), le-ltb _ _ (c .before .before .before .before .if4 .left), ← (c .before .before .before .byte-at2 .ensures), eq-eqb _ _ (c .before .before .if5 .left), ← (c .before .flags-wrong .ensures), c .if6 .taken)
-
-header-of-requires : tie.Need-header-of-requires
-header-of-requires c κs = search needs
-
-period-wrong-requires : tie.Need-period-wrong-requires
-period-wrong-requires c κs = search needs
 
 returns-7 : tie.Need-returns-7
 unfolding headerFrom
@@ -61,19 +40,4 @@ returns-8 c = simp (← (c .before .before .before .before .before .before .befo
 pub read-header-spec : {M : Type 1} → statement M
 read-header-spec =
     tie.close
-    (tie.spec
-    byte-at-requires
-    header-size-requires
-    returns
-    read-u32-requires
-    returns-2
-    returns-3
-    returns-4
-    byte-at-requires-2
-    returns-5
-    flags-wrong-requires
-    returns-6
-    header-of-requires
-    period-wrong-requires
-    returns-7
-    returns-8)
+    (tie.spec (search needs) (search needs) returns (search needs) returns-2 returns-3 returns-4 (search needs) returns-5 (search needs) returns-6 (search needs) (search needs) returns-7 returns-8)

@@ -5,9 +5,6 @@ use Rattle.format.specs.Header.{cardCount}
 use Rattle.header_fields.proofs.card_count.Statement.{statement}
 use Rattle.header_fields.proofs.card_count.Tie as tie
 
-byte-at-requires : tie.Need-byte-at-requires
-byte-at-requires c κs = search needs
-
 returns : tie.Need-returns
 unfolding cardCount
 returns c = simp (eq-eqb _ _ (c .before .if1 .taken), ← (c .byte-at .ensures))
@@ -17,4 +14,4 @@ unfolding cardCount
 returns-2 c = simp (ne-eqb _ _ (c .if1 .left))
 
 pub card-count-spec : {M : Type 1} → statement M
-card-count-spec = tie.close (tie.spec byte-at-requires returns returns-2)
+card-count-spec = tie.close (tie.spec (search needs) returns returns-2)

@@ -5,18 +5,9 @@ use Rattle.format.specs.Header.{headerOf}
 use Rattle.header_fields.proofs.header_of.Statement.{statement}
 use Rattle.header_fields.proofs.header_of.Tie as tie
 
-byte-at-requires : tie.Need-byte-at-requires
-byte-at-requires c κs = search needs
-
-plain-header-requires : tie.Need-plain-header-requires
-plain-header-requires c κs = search needs
-
 returns : tie.Need-returns
 unfolding headerOf
 returns c = simp (← (c .before .before .byte-at .ensures), eq-eqb _ _ (c .before .if1 .taken), ← (c .plain-header .ensures))
-
-pooled-header-requires : tie.Need-pooled-header-requires
-pooled-header-requires c κs = search needs
 
 returns-2 : tie.Need-returns-2
 unfolding headerOf
@@ -25,4 +16,4 @@ returns-2 c = simp (← (c .before .before .byte-at .ensures), ne-eqb _ _ (c .be
 pub header-of-spec : {M : Type 1} → statement M
 header-of-spec =
     tie.close
-    (tie.spec byte-at-requires plain-header-requires returns pooled-header-requires returns-2)
+    (tie.spec (search needs) (search needs) returns (search needs) returns-2)

@@ -5,15 +5,9 @@ use Rattle.format.specs.Header.{flagsWrong}
 use Rattle.header_rules.proofs.flags_wrong.Statement.{statement}
 use Rattle.header_rules.proofs.flags_wrong.Tie as tie
 
-byte-at-requires : tie.Need-byte-at-requires
-byte-at-requires c κs = search needs
-
 returns : tie.Need-returns
 unfolding flagsWrong
 returns c = simp (← (c .before .byte-at .ensures), lt-ltb _ _ (c .if1 .taken))
-
-byte-at-requires-2 : tie.Need-byte-at-requires-2
-byte-at-requires-2 c κs = search needs
 
 returns-2 : tie.Need-returns-2
 unfolding flagsWrong
@@ -23,9 +17,6 @@ returns-3 : tie.Need-returns-3
 unfolding flagsWrong
 returns-3 c = simp (← (c .before .before .before .before .byte-at .ensures), le-ltb _ _ (c .before .before .before .if1 .left), ← (c .before .before .byte-at2 .ensures), eq-eqb _ _ (c .before .if2 .left), eq-eqb _ _ (c .if3 .taken))
 
-reserved-wrong-requires : tie.Need-reserved-wrong-requires
-reserved-wrong-requires c κs = search needs
-
 returns-4 : tie.Need-returns-4
 unfolding flagsWrong
 returns-4 c = simp (← (c .before .before .before .before .before .byte-at .ensures), le-ltb _ _ (c .before .before .before .before .if1 .left), ← (c .before .before .before .byte-at2 .ensures), eq-eqb _ _ (c .before .before .if2 .left), ne-eqb _ _ (c .before .if3 .left), ← (c .reserved-wrong .ensures))
@@ -33,11 +24,4 @@ returns-4 c = simp (← (c .before .before .before .before .before .byte-at .ens
 pub flags-wrong-spec : {M : Type 1} → statement M
 flags-wrong-spec =
     tie.close
-    (tie.spec
-    byte-at-requires
-    returns
-    byte-at-requires-2
-    returns-2
-    returns-3
-    reserved-wrong-requires
-    returns-4)
+    (tie.spec (search needs) returns (search needs) returns-2 returns-3 (search needs) returns-4)

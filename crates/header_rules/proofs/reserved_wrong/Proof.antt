@@ -5,42 +5,21 @@ use Rattle.format.specs.Header.{reservedWrong}
 use Rattle.header_rules.proofs.reserved_wrong.Statement.{statement}
 use Rattle.header_rules.proofs.reserved_wrong.Tie as tie
 
-read-u16-requires : tie.Need-read-u16-requires
-read-u16-requires c κs = search needs
-
-cast-if1 : tie.Need-cast-if1
-cast-if1 c = search needs
-
-header-size-requires : tie.Need-header-size-requires
-header-size-requires c κs = search needs
-
 returns : tie.Need-returns
 unfolding reservedWrong
 returns c = simp (← (c .before .before .read-u16 .ensures), ← (c .before .header-size .ensures), ne-eqb _ _ (c .if1 .taken))
-
-byte-at-requires : tie.Need-byte-at-requires
-byte-at-requires c κs = search needs
 
 returns-2 : tie.Need-returns-2
 unfolding reservedWrong
 returns-2 c = simp (← (c .before .before .before .before .read-u16 .ensures), ← (c .before .before .before .header-size .ensures), eq-eqb _ _ (c .before .before .if1 .left), ← (c .before .byte-at .ensures), ne-eqb _ _ (c .if2 .taken))
 
-byte-at-requires-2 : tie.Need-byte-at-requires-2
-byte-at-requires-2 c κs = search needs
-
 returns-3 : tie.Need-returns-3
 unfolding reservedWrong
 returns-3 c = simp (← (c .before .before .before .before .before .before .before .read-u16 .ensures), ← (c .before .before .before .before .before .before .header-size .ensures), eq-eqb _ _ (c .before .before .before .before .before .if1 .left), ← (c .before .before .before .before .byte-at .ensures), eq-eqb _ _ (c .before .before .before .if2 .left), eq-eqb _ _ (c .before .before .if3 .taken), ← (c .before .byte-at2 .ensures), lt-ltb _ _ (c .if4 .taken))
 
-read-u32-requires : tie.Need-read-u32-requires
-read-u32-requires c κs = search needs
-
 returns-4 : tie.Need-returns-4
 unfolding reservedWrong
 returns-4 c = simp (← (c .before .before .before .before .before .before .before .before .read-u16 .ensures), ← (c .before .before .before .before .before .before .before .header-size .ensures), eq-eqb _ _ (c .before .before .before .before .before .before .if1 .left), ← (c .before .before .before .before .before .byte-at .ensures), eq-eqb _ _ (c .before .before .before .before .if2 .left), eq-eqb _ _ (c .before .before .before .if3 .taken), ← (c .before .before .byte-at2 .ensures), le-ltb _ _ (c .before .if4 .left), ← (c .read-u32 .ensures))
-
-byte-at-requires-3 : tie.Need-byte-at-requires-3
-byte-at-requires-3 c κs = search needs
 
 returns-5 : tie.Need-returns-5
 unfolding reservedWrong
@@ -49,16 +28,4 @@ returns-5 c = simp (← (c .before .before .before .before .before .before .read
 pub reserved-wrong-spec : {M : Type 1} → statement M
 reserved-wrong-spec =
     tie.close
-    (tie.spec
-    read-u16-requires
-    cast-if1
-    header-size-requires
-    returns
-    byte-at-requires
-    returns-2
-    byte-at-requires-2
-    returns-3
-    read-u32-requires
-    returns-4
-    byte-at-requires-3
-    returns-5)
+    (tie.spec (search needs) (search needs) (search needs) returns (search needs) returns-2 (search needs) returns-3 (search needs) returns-4 (search needs) returns-5)

@@ -6,12 +6,6 @@ use Rattle.image_store.proofs.Image.{fill-all}
 use Rattle.image_store.proofs.begin.Statement.{statement}
 use Rattle.image_store.proofs.begin.Tie as tie
 
-fill-requires : tie.Need-fill-requires
-fill-requires c κs = search needs
-
-same-length : tie.Need-same-length
-same-length c = search needs
-
 returns : tie.Need-returns
 returns c =
     let a = c .before .before .before .before .before .args in
@@ -20,7 +14,4 @@ returns c =
 pub begin-spec : {M : Type 1} → statement M
 begin-spec =
     tie.close
-    (tie.spec
-    fill-requires
-    same-length
-    returns)
+    (tie.spec (search needs) (search needs) returns)

@@ -11,33 +11,6 @@ row : (c : tie.After-then2) → verdictOf (c .then2 .result) ≡ tablesRow (c .b
 row c =
     rw (c .then2 .ensures, c .before .then .ensures, c .before .before .refuse2 .ensures, c .before .before .before .directory-wrong .ensures, c .before .before .before .before .refuse .ensures, c .before .before .before .before .before .counts-wrong .ensures)
 
-counts-wrong-requires : tie.Need-counts-wrong-requires
-counts-wrong-requires c κs = search needs
-
-refuse-requires : tie.Need-refuse-requires
-refuse-requires c κs = search needs
-
-directory-wrong-requires : tie.Need-directory-wrong-requires
-directory-wrong-requires c κs = search needs
-
-refuse-requires-2 : tie.Need-refuse-requires-2
-refuse-requires-2 c κs = search needs
-
-then-requires : tie.Need-then-requires
-then-requires c κs = search needs
-
-then-requires-2 : tie.Need-then-requires-2
-then-requires-2 c κs = search needs
-
-enum-told : tie.Need-enum-told
-enum-told c = search needs
-
-check-sections-requires : tie.Need-check-sections-requires
-check-sections-requires c κs = search needs
-
-enum-known-refusal : tie.Need-enum-known-refusal
-enum-known-refusal c = search needs
-
 returns : tie.Need-returns
 returns c = rw (layout-row, ← (row (c .before .before .before)), c .before .enum-told .given .1) (c .check-sections .ensures)
 
@@ -47,15 +20,4 @@ returns-2 c = rw (layout-row, ← (row (c .before .before .before)), c .before .
 pub check-layout-spec : {M : Type 1} → statement M
 check-layout-spec =
     tie.close
-    (tie.spec
-    counts-wrong-requires
-    refuse-requires
-    directory-wrong-requires
-    refuse-requires-2
-    then-requires
-    then-requires-2
-    enum-told
-    check-sections-requires
-    enum-known-refusal
-    returns
-    returns-2)
+    (tie.spec (search needs) (search needs) (search needs) (search needs) (search needs) (search needs) (search needs) (search needs) (search needs) returns returns-2)

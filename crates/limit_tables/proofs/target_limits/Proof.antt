@@ -30,51 +30,6 @@ abbrev μ-loop : tie.MeasureT-loop
 loop-holds : tie.Need-loop-holds Inv-loop μ-loop
 loop-holds c = (omega arith, filled-none _ _ (c .pre .0), filled-none _ _ (c .pre .1), filled-none _ _ (c .pre .2), filled-none _ _ (c .pre .3))
 
-cast-find-target : tie.Need-cast-find-target Inv-loop μ-loop
-cast-find-target c = search needs
-
-find-target-requires : tie.Need-find-target-requires Inv-loop μ-loop
-find-target-requires c κs = search needs
-
-write-end-requires : tie.Need-write-end-requires Inv-loop μ-loop
-write-end-requires c κs = search needs
-
-mul-limits : tie.Need-mul-limits Inv-loop μ-loop
-mul-limits c = search needs
-
-element-write-limits : tie.Need-element-write-limits Inv-loop μ-loop
-element-write-limits c = search needs
-
-bulk-start-requires : tie.Need-bulk-start-requires Inv-loop μ-loop
-bulk-start-requires c κs = search needs
-
-mul-starts : tie.Need-mul-starts Inv-loop μ-loop
-mul-starts c = search needs
-
-element-write-starts : tie.Need-element-write-starts Inv-loop μ-loop
-element-write-starts c = search needs
-
-bulk-end-requires : tie.Need-bulk-end-requires Inv-loop μ-loop
-bulk-end-requires c κs = search needs
-
-mul-ends : tie.Need-mul-ends Inv-loop μ-loop
-mul-ends c = search needs
-
-element-write-ends : tie.Need-element-write-ends Inv-loop μ-loop
-element-write-ends c = search needs
-
-kind-requires : tie.Need-kind-requires Inv-loop μ-loop
-kind-requires c κs = search needs
-
-element-write-kinds : tie.Need-element-write-kinds Inv-loop μ-loop
-element-write-kinds c = search needs
-
-add-number : tie.Need-add-number Inv-loop μ-loop
-add-number c = search needs
-
-loop-less : tie.Need-loop-less Inv-loop μ-loop
-loop-less c = search needs
-
 loop-again : tie.Need-loop-again Inv-loop μ-loop
 loop-again c =
     let find = c .before .before .before .before in
@@ -92,24 +47,4 @@ returns c =
 pub target-limits-spec : {M : Type 1} → statement M
 target-limits-spec =
     tie.close
-    (tie.spec
-    Inv-loop
-    μ-loop
-    loop-holds
-    cast-find-target
-    find-target-requires
-    write-end-requires
-    mul-limits
-    element-write-limits
-    bulk-start-requires
-    mul-starts
-    element-write-starts
-    bulk-end-requires
-    mul-ends
-    element-write-ends
-    kind-requires
-    element-write-kinds
-    add-number
-    loop-less
-    loop-again
-    returns)
+    (tie.spec Inv-loop μ-loop loop-holds (search needs) (search needs) (search needs) (search needs) (search needs) (search needs) (search needs) (search needs) (search needs) (search needs) (search needs) (search needs) (search needs) (search needs) (search needs) loop-again returns)

@@ -6,15 +6,9 @@ use Rattle.limit_tables.specs.Limits.{writeEnd}
 use Rattle.limit_tables.proofs.write_end.Statement.{statement}
 use Rattle.limit_tables.proofs.write_end.Tie as tie
 
-missing-requires : tie.Need-missing-requires
-missing-requires c κs = search needs
-
 returns : tie.Need-returns
 unfolding writeEnd
 returns c = simp (← (c .before .missing .ensures), c .if1 .taken, and-false, or-false)
-
-write-limit-requires : tie.Need-write-limit-requires
-write-limit-requires c κs = search needs
 
 add-result : tie.Need-add-result
 add-result c = omega (arith, c .write-limit .ensures, write-limit-range (c .before .before .before .args .target))
@@ -25,4 +19,4 @@ returns-2 c = simp (← (c .before .before .missing .ensures), c .before .if1 .l
 
 pub write-end-spec : {M : Type 1} → statement M
 write-end-spec =
-    tie.close (tie.spec missing-requires returns write-limit-requires add-result returns-2)
+    tie.close (tie.spec (search needs) returns (search needs) add-result returns-2)

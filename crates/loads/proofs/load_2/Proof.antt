@@ -5,39 +5,10 @@ use Rattle.format.proofs.Bytes.{be-first, be-next}
 use Rattle.loads.proofs.load_2.Statement.{statement}
 use Rattle.loads.proofs.load_2.Tie as tie
 
-shared-slice-read-wide : tie.Need-shared-slice-read-wide
-shared-slice-read-wide c = search needs
-
-wide-requires : tie.Need-wide-requires
-wide-requires c κs = search needs
-
-mul-result : tie.Need-mul-result
-mul-result c = search needs
-
-add-wide : tie.Need-add-wide
-add-wide c = search needs
-
-shared-slice-read-wide-2 : tie.Need-shared-slice-read-wide-2
-shared-slice-read-wide-2 c = search needs
-
-wide-requires-2 : tie.Need-wide-requires-2
-wide-requires-2 c κs = search needs
-
-add-result : tie.Need-add-result
-add-result c = search needs
-
 returns : tie.Need-returns
 returns c = let a = c .before .before .before .before .before .args in omega (arith, be-first (a .file .now) (a .at), be-next 1 (a .file .now) (a .at))
 
 pub load-2-spec : {M : Type 1} → statement M
 load-2-spec =
     tie.close
-    (tie.spec
-    shared-slice-read-wide
-    wide-requires
-    mul-result
-    add-wide
-    shared-slice-read-wide-2
-    wide-requires-2
-    add-result
-    returns)
+    (tie.spec (search needs) (search needs) (search needs) (search needs) (search needs) (search needs) (search needs) returns)

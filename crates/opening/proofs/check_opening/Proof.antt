@@ -14,18 +14,6 @@ use Rattle.operation.proofs.Steps.{walked-with}
 use Rattle.opening.proofs.check_opening.Statement.{statement}
 use Rattle.opening.proofs.check_opening.Tie as tie
 
-opening-limit-requires : tie.Need-opening-limit-requires
-opening-limit-requires c κs = search needs
-
-cast-quick-run : tie.Need-cast-quick-run
-cast-quick-run c = search needs
-
-quick-run-requires : tie.Need-quick-run-requires
-quick-run-requires c κs = search needs
-
-check-operations-requires : tie.Need-check-operations-requires
-check-operations-requires c κs = search needs
-
 -- the opening is what was passed quickly, and what is behind
 whole : (c : tie.After-check-operations)
     → let q = c .before in
@@ -40,15 +28,6 @@ whole c =
     let run = q .quick-run .result in
     rw (quick-ran (h .version) (cardsOf (a .cards)) (h .«pool_count») (h .«directory_offset») (a .file .now) (a .limits .now) (a .starts .now) (a .ends .now) (a .kinds .now) (openingLimit h (a .file .now)) (h .«initial_count») (h .«initial_start») (s .pre), ← (q .before .before .opening-limit .ensures), ← (q .quick-run .ensures), walked-with (run .si22) (settingOf (a .file .now) h (a .cards)) (a .file .now) (q .before .before .opening-limit .result) (run .left) (run .at), ← (c .check-operations .ensures))
 
-enum-known-place : tie.Need-enum-known-place
-enum-known-place c = search needs
-
-either-requires : tie.Need-either-requires
-either-requires c κs = search needs
-
-enum-known-refusal : tie.Need-enum-known-refusal
-enum-known-refusal c = search needs
-
 returns : tie.Need-returns
 returns c = rw (whole (c .before .before .before .before), c .before .before .place .given .1, c .either .ensures)
 
@@ -58,13 +37,4 @@ returns-2 c = rw (whole (c .before .before .before), c .before .refusal .given .
 pub check-opening-spec : {M : Type 1} → statement M
 check-opening-spec =
     tie.close
-    (tie.spec
-    opening-limit-requires
-    cast-quick-run
-    quick-run-requires
-    check-operations-requires
-    enum-known-place
-    either-requires
-    enum-known-refusal
-    returns
-    returns-2)
+    (tie.spec (search needs) (search needs) (search needs) (search needs) (search needs) (search needs) (search needs) returns returns-2)

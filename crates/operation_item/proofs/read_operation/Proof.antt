@@ -12,24 +12,9 @@ returns : tie.Need-returns
 unfolding operationAt
 returns c = simp (le-leb _ _ (c .if1 .taken))
 
-byte-at-requires : tie.Need-byte-at-requires
-byte-at-requires c κs = search needs
-
-cast-opcode : tie.Need-cast-opcode
-cast-opcode c = search needs
-
 returns-2 : tie.Need-returns-2
 unfolding operationAt
 returns-2 c = simp (lt-leb _ _ (c .before .before .if1 .left), ← (c .before .byte-at .ensures), lt-ltb _ _ (c .if2 .taken))
-
-address-width-requires : tie.Need-address-width-requires
-address-width-requires c κs = search needs
-
-operation-size-requires : tie.Need-operation-size-requires
-operation-size-requires c κs = search needs
-
-sub-if3 : tie.Need-sub-if3
-sub-if3 c = search needs
 
 returns-3 : tie.Need-returns-3
 unfolding operationAt
@@ -42,18 +27,6 @@ returns-3 c =
 
 read-fields-requires : tie.Need-read-fields-requires
 read-fields-requires c κs = omega (arith, c .before .operation-size .ensures .0)
-
-target-number-requires : tie.Need-target-number-requires
-target-number-requires c κs = search needs
-
-find-target-requires : tie.Need-find-target-requires
-find-target-requires c κs = search needs
-
-add-allow : tie.Need-add-allow
-add-allow c = search needs
-
-allow-requires : tie.Need-allow-requires
-allow-requires c κs = search needs
 
 returns-4 : tie.Need-returns-4
 unfolding operationAt
@@ -69,18 +42,4 @@ returns-4 c =
 pub read-operation-spec : {M : Type 1} → statement M
 read-operation-spec =
     tie.close
-    (tie.spec
-    returns
-    byte-at-requires
-    cast-opcode
-    returns-2
-    address-width-requires
-    operation-size-requires
-    sub-if3
-    returns-3
-    read-fields-requires
-    target-number-requires
-    find-target-requires
-    add-allow
-    allow-requires
-    returns-4)
+    (tie.spec returns (search needs) (search needs) returns-2 (search needs) (search needs) (search needs) returns-3 read-fields-requires (search needs) (search needs) (search needs) (search needs) returns-4)

@@ -3,17 +3,8 @@ use borrow.Author.Tests.{eq-eqb, ne-eqb}
 use Rattle.parts.proofs.check_frames_end.Statement.{statement}
 use Rattle.parts.proofs.check_frames_end.Tie as tie
 
-check-frames-requires : tie.Need-check-frames-requires
-check-frames-requires c κs = search needs
-
-enum-known-place : tie.Need-enum-known-place
-enum-known-place c = search needs
-
 returns : tie.Need-returns
 returns c = rw (← (c .before .before .before .before .check-frames .ensures), c .before .before .place .given .1, ne-eqb _ _ (c .if1 .taken))
-
-enum-known-refusal : tie.Need-enum-known-refusal
-enum-known-refusal c = search needs
 
 returns-2 : tie.Need-returns-2
 returns-2 c = rw (← (c .before .before .before .before .check-frames .ensures), c .before .before .place .given .1, eq-eqb _ _ (c .if1 .left))
@@ -24,10 +15,4 @@ returns-3 c = rw (← (c .before .before .before .check-frames .ensures), c .bef
 pub check-frames-end-spec : {M : Type 1} → statement M
 check-frames-end-spec =
     tie.close
-    (tie.spec
-    check-frames-requires
-    enum-known-place
-    returns
-    enum-known-refusal
-    returns-2
-    returns-3)
+    (tie.spec (λ c κs. search needs) (λ c. search needs) returns (λ c. search needs) returns-2 returns-3)

@@ -5,9 +5,6 @@ use native.Mathlib.Omega.{arith}
 use Rattle.plain_step.proofs.fitting.Statement.{statement}
 use Rattle.plain_step.proofs.fitting.Tie as tie
 
-cast-result : tie.Need-cast-result
-cast-result c = search needs
-
 returns : tie.Need-returns
 returns c = (rw (lt-ltb _ _ (c .if1 .taken)), omega (arith, c .if1 .taken))
 
@@ -15,4 +12,4 @@ returns-2 : tie.Need-returns-2
 returns-2 c = (rw (le-ltb _ _ (c .if1 .left)), omega arith)
 
 pub fitting-spec : {M : Type 1} → statement M
-fitting-spec = tie.close (tie.spec cast-result returns returns-2)
+fitting-spec = tie.close (tie.spec (search needs) returns returns-2)

@@ -13,9 +13,6 @@ Inv-loop file version end count start size at₀ left₀ at left = plainBehind v
 abbrev μ-loop : tie.MeasureT-loop
 μ-loop file version end count start size at₀ left₀ at left = left
 
-plain-size-requires : tie.Need-plain-size-requires Inv-loop μ-loop
-plain-size-requires c κs = search needs
-
 loop-holds : tie.Need-loop-holds Inv-loop μ-loop
 loop-holds c = refl
 
@@ -31,26 +28,11 @@ returns-2 c =
     let a = l .before .before .before .args in
     rw (l .loop .inv, behind-short (a .version) (a .file .now) (a .end) (l .loop .left) (l .loop .at) (c .before .before .loop-test .taken) (omega (arith, c .if2 .taken, c .before .if1 .left)))
 
-window-requires : tie.Need-window-requires Inv-loop μ-loop
-window-requires c κs = search needs
-
-plain-in-requires : tie.Need-plain-in-requires Inv-loop μ-loop
-plain-in-requires c κs = search needs
-
 returns-3 : tie.Need-returns-3 Inv-loop μ-loop
 returns-3 c =
     let l = c .before .before .before .before .before .before in
     let a = l .before .before .before .args in
     rw (l .loop .inv, behind-other (a .version) (a .file .now) (a .end) (l .loop .left) (l .loop .at) (c .before .before .before .before .before .loop-test .taken) (omega (arith, c .before .before .before .if2 .left, c .before .before .before .before .if1 .left)) (rw (← (c .before .before .window .ensures)) (sym (c .before .plain-in .ensures) ∙ not-true _ (c .if3 .taken))))
-
-add-at : tie.Need-add-at Inv-loop μ-loop
-add-at c = search needs
-
-sub-left : tie.Need-sub-left Inv-loop μ-loop
-sub-left c = search needs
-
-loop-less : tie.Need-loop-less Inv-loop μ-loop
-loop-less c = search needs
 
 loop-again : tie.Need-loop-again Inv-loop μ-loop
 loop-again c =
@@ -68,18 +50,4 @@ returns-4 c =
 pub plain-behind-spec : {M : Type 1} → statement M
 plain-behind-spec =
     tie.close
-    (tie.spec
-    Inv-loop
-    μ-loop
-    plain-size-requires
-    loop-holds
-    returns
-    returns-2
-    window-requires
-    plain-in-requires
-    returns-3
-    add-at
-    sub-left
-    loop-less
-    loop-again
-    returns-4)
+    (tie.spec Inv-loop μ-loop (search needs) loop-holds returns returns-2 (search needs) (search needs) returns-3 (search needs) (search needs) (search needs) loop-again returns-4)

@@ -5,22 +5,13 @@ use Rattle.plain_writes.specs.Plain.{plainEnd}
 use Rattle.plain_writes.proofs.plain_end.Statement.{statement}
 use Rattle.plain_writes.proofs.plain_end.Tie as tie
 
-add-result : tie.Need-add-result
-add-result c = search needs
-
 returns : tie.Need-returns
 unfolding plainEnd
 returns c = simp (lt-leb _ _ (c .if1 .taken), lt-ltb _ _ (c .if1 .taken), and-false, or-false)
 
-add-result-2 : tie.Need-add-result-2
-add-result-2 c = search needs
-
 returns-2 : tie.Need-returns-2
 unfolding plainEnd
 returns-2 c = simp (le-ltb _ _ (c .before .if1 .left), le-leb _ _ (c .before .if1 .left), eq-eqb _ _ (c .if2 .taken), and-false, or-false)
-
-add-result-3 : tie.Need-add-result-3
-add-result-3 c = search needs
 
 returns-3 : tie.Need-returns-3
 unfolding plainEnd
@@ -29,9 +20,6 @@ returns-3 c = simp (le-ltb _ _ (c .before .before .before .if1 .left), le-leb _ 
 returns-4 : tie.Need-returns-4
 unfolding plainEnd
 returns-4 c = simp (le-ltb _ _ (c .before .before .before .if1 .left), le-leb _ _ (c .before .before .before .if1 .left), ne-eqb _ _ (c .before .before .if2 .left), eq-eqb _ _ (c .before .if3 .taken), ne-eqb _ _ (c .if4 .left), and-false, or-false)
-
-add-result-4 : tie.Need-add-result-4
-add-result-4 c = search needs
 
 returns-5 : tie.Need-returns-5
 unfolding plainEnd
@@ -48,15 +36,4 @@ returns-7 c = simp (le-ltb _ _ (c .before .before .before .if1 .left), le-leb _ 
 pub plain-end-spec : {M : Type 1} → statement M
 plain-end-spec =
     tie.close
-    (tie.spec
-    add-result
-    returns
-    add-result-2
-    returns-2
-    add-result-3
-    returns-3
-    returns-4
-    add-result-4
-    returns-5
-    returns-6
-    returns-7)
+    (tie.spec (search needs) returns (search needs) returns-2 (search needs) returns-3 returns-4 (search needs) returns-5 returns-6 returns-7)

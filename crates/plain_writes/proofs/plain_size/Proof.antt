@@ -9,15 +9,9 @@ returns : tie.Need-returns
 unfolding plainSize
 returns c = (rw (eq-eqb _ _ (c .if1 .taken)), omega arith)
 
-address-width-requires : tie.Need-address-width-requires
-address-width-requires c κs = search needs
-
-add-result : tie.Need-add-result
-add-result c = search needs
-
 returns-2 : tie.Need-returns-2
 unfolding plainSize
 returns-2 c = (rw (ne-eqb _ _ (c .before .if1 .left), c .address-width .ensures .0), omega (arith, c .address-width .ensures))
 
 pub plain-size-spec : {M : Type 1} → statement M
-plain-size-spec = tie.close (tie.spec returns address-width-requires add-result returns-2)
+plain-size-spec = tie.close (tie.spec returns (search needs) (search needs) returns-2)

@@ -5,9 +5,6 @@ use borrow.Author.Needs.{needs}
 use Rattle.pool_entry.proofs.entry_of.Statement.{statement}
 use Rattle.pool_entry.proofs.entry_of.Tie as tie
 
-read-pool-requires : tie.Need-read-pool-requires
-read-pool-requires c κs = search needs
-
 returns : tie.Need-returns
 unfolding entryOf
 returns c = rw (lt-ltb _ _ (c .before .if1 .taken)) (c .read-pool .ensures)
@@ -17,4 +14,4 @@ unfolding entryOf
 returns-2 c = rw (le-ltb _ _ (c .if1 .left))
 
 pub entry-of-spec : {M : Type 1} → statement M
-entry-of-spec = tie.close (tie.spec read-pool-requires returns returns-2)
+entry-of-spec = tie.close (tie.spec (search needs) returns returns-2)

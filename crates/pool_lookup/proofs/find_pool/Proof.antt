@@ -8,18 +8,6 @@ use borrow.Author.Needs.{needs}
 use Rattle.pool_lookup.proofs.find_pool.Statement.{statement}
 use Rattle.pool_lookup.proofs.find_pool.Tie as tie
 
-check-file-requires : tie.Need-check-file-requires
-check-file-requires c κs = search needs
-
-enum-known-answer : tie.Need-enum-known-answer
-enum-known-answer c = search needs
-
-entry-of-requires : tie.Need-entry-of-requires
-entry-of-requires c κs = search needs
-
-enum-known-answer-2 : tie.Need-enum-known-answer-2
-enum-known-answer-2 c = search needs
-
 returns : tie.Need-returns
 returns c =
     let s = c .before .before .before .before .before .before .args in
@@ -32,10 +20,4 @@ returns-2 c = rw (refused-as (c .before .before .before .before .before .args .f
 pub find-pool-spec : {M : Type 1} → statement M
 find-pool-spec =
     tie.close
-    (tie.spec
-    check-file-requires
-    enum-known-answer
-    entry-of-requires
-    enum-known-answer-2
-    returns
-    returns-2)
+    (tie.spec (search needs) (search needs) (search needs) (search needs) returns returns-2)

@@ -4,15 +4,6 @@ use borrow.Author.Needs.{needs}
 use Rattle.pool_lookup.proofs.pool_kind.Statement.{statement}
 use Rattle.pool_lookup.proofs.pool_kind.Tie as tie
 
-find-pool-requires : tie.Need-find-pool-requires
-find-pool-requires c κs = search needs
-
-enum-known-pool : tie.Need-enum-known-pool
-enum-known-pool c = search needs
-
-enum-known-refusal : tie.Need-enum-known-refusal
-enum-known-refusal c = search needs
-
 returns : tie.Need-returns
 returns c = rw (kind-found, ← (c .before .before .before .find-pool .ensures), c .before .pool .given .1)
 
@@ -21,4 +12,4 @@ returns-2 c = rw (kind-found, ← (c .before .before .before .find-pool .ensures
 
 pub pool-kind-spec : {M : Type 1} → statement M
 pool-kind-spec =
-    tie.close (tie.spec find-pool-requires enum-known-pool enum-known-refusal returns returns-2)
+    tie.close (tie.spec (search needs) (search needs) (search needs) returns returns-2)

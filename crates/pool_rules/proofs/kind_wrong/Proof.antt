@@ -21,9 +21,6 @@ returns-4 : tie.Need-returns-4
 unfolding kindWrong
 returns-4 c = simp (ne-eqb _ _ (c .before .before .before .if1 .left), ne-eqb _ _ (c .before .before .if2 .left), eq-eqb _ _ (c .before .if4 .taken), eq-eqb _ _ (c .if5 .taken))
 
-bank-limit-requires : tie.Need-bank-limit-requires
-bank-limit-requires c κs = search needs
-
 returns-5 : tie.Need-returns-5
 unfolding kindWrong
 returns-5 c = simp (ne-eqb _ _ (c .before .before .before .before .if1 .left), ne-eqb _ _ (c .before .before .before .if2 .left), eq-eqb _ _ (c .before .before .if4 .taken), ne-eqb _ _ (c .before .if5 .left), ← (c .bank-limit .ensures))
@@ -35,4 +32,4 @@ returns-6 c = simp (ne-eqb _ _ (c .before .before .if1 .left), ne-eqb _ _ (c .be
 pub kind-wrong-spec : {M : Type 1} → statement M
 kind-wrong-spec =
     tie.close
-    (tie.spec returns returns-2 returns-3 returns-4 bank-limit-requires returns-5 returns-6)
+    (tie.spec returns returns-2 returns-3 returns-4 (search needs) returns-5 returns-6)

@@ -6,45 +6,21 @@ use Rattle.format.specs.Pool.{poolWrong}
 use Rattle.pool_rules.proofs.pool_wrong.Statement.{statement}
 use Rattle.pool_rules.proofs.pool_wrong.Tie as tie
 
-read-u16-requires : tie.Need-read-u16-requires
-read-u16-requires c κs = search needs
-
-cast-if1 : tie.Need-cast-if1
-cast-if1 c = search needs
-
 returns : tie.Need-returns
 unfolding poolWrong
 returns c = simp (← (c .before .read-u16 .ensures), ne-eqb _ _ (c .if1 .taken))
-
-kind-wrong-requires : tie.Need-kind-wrong-requires
-kind-wrong-requires c κs = search needs
 
 returns-2 : tie.Need-returns-2
 unfolding poolWrong
 returns-2 c = simp (← (c .before .kind-wrong .ensures), c .if2 .taken, or-true)
 
-add-byte-at : tie.Need-add-byte-at
-add-byte-at c = search needs
-
-byte-at-requires : tie.Need-byte-at-requires
-byte-at-requires c κs = search needs
-
 returns-3 : tie.Need-returns-3
 unfolding poolWrong
 returns-3 c = simp (← (c .before .byte-at .ensures), ne-eqb _ _ (c .if3 .taken), or-true)
 
-add-read-u32 : tie.Need-add-read-u32
-add-read-u32 c = search needs
-
-read-u32-requires : tie.Need-read-u32-requires
-read-u32-requires c κs = search needs
-
 returns-4 : tie.Need-returns-4
 unfolding poolWrong
 returns-4 c = simp (← (c .before .before .read-u32 .ensures), ne-eqb _ _ (c .if4 .taken), or-true)
-
-cast-result : tie.Need-cast-result
-cast-result c = search needs
 
 returns-5 : tie.Need-returns-5
 unfolding poolWrong
@@ -53,17 +29,4 @@ returns-5 c = rw (← (c .before .before .before .before .before .before .before
 pub pool-wrong-spec : {M : Type 1} → statement M
 pool-wrong-spec =
     tie.close
-    (tie.spec
-    read-u16-requires
-    cast-if1
-    returns
-    kind-wrong-requires
-    returns-2
-    add-byte-at
-    byte-at-requires
-    returns-3
-    add-read-u32
-    read-u32-requires
-    returns-4
-    cast-result
-    returns-5)
+    (tie.spec (search needs) (search needs) returns (search needs) returns-2 (search needs) (search needs) returns-3 (search needs) (search needs) returns-4 (search needs) returns-5)

@@ -5,12 +5,6 @@ use Rattle.quick_rules.specs.Quick.{quickWrite}
 use Rattle.quick_operations.proofs.quick_write.Statement.{statement}
 use Rattle.quick_operations.proofs.quick_write.Tie as tie
 
-read-address-requires : tie.Need-read-address-requires
-read-address-requires c κs = search needs
-
-add-result : tie.Need-add-result
-add-result c = search needs
-
 returns : tie.Need-returns
 unfolding quickWrite
 returns c = simp (← (c .before .read-address .ensures), lt-leb _ _ (c .if1 .taken), lt-ltb _ _ (c .if1 .taken), and-false, or-false)
@@ -20,4 +14,4 @@ unfolding quickWrite
 returns-2 c = simp (← (c .before .read-address .ensures), le-ltb _ _ (c .if1 .left), le-leb _ _ (c .if1 .left), and-false, or-false)
 
 pub quick-write-spec : {M : Type 1} → statement M
-quick-write-spec = tie.close (tie.spec read-address-requires add-result returns returns-2)
+quick-write-spec = tie.close (tie.spec (search needs) (search needs) returns returns-2)

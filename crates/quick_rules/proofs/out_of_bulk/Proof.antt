@@ -13,12 +13,9 @@ returns-2 : tie.Need-returns-2
 unfolding outOfBulk
 returns-2 c = simp (ne-eqb _ _ (c .before .if1 .left), lt-leb _ _ (c .if2 .taken), lt-ltb _ _ (c .if2 .taken), and-false, or-false)
 
-add-result : tie.Need-add-result
-add-result c = search needs
-
 returns-3 : tie.Need-returns-3
 unfolding outOfBulk
 returns-3 c = simp (ne-eqb _ _ (c .before .if1 .left), le-ltb _ _ (c .if2 .left), le-leb _ _ (c .if2 .left), and-false, or-false)
 
 pub out-of-bulk-spec : {M : Type 1} → statement M
-out-of-bulk-spec = tie.close (tie.spec returns returns-2 add-result returns-3)
+out-of-bulk-spec = tie.close (tie.spec returns returns-2 (search needs) returns-3)

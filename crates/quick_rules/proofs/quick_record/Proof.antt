@@ -19,18 +19,6 @@ returns-2 c =
     let a = c .before .before .before .args in
     rw (lt-leb (a .at + 5) (a .limit) (omega arith))
 
-byte-at-requires : tie.Need-byte-at-requires
-byte-at-requires c κs = search needs
-
-add-read-u24 : tie.Need-add-read-u24
-add-read-u24 c = search needs
-
-read-u24-requires : tie.Need-read-u24-requires
-read-u24-requires c κs = search needs
-
-plain-write-requires : tie.Need-plain-write-requires
-plain-write-requires c κs = search needs
-
 returns-3 : tie.Need-returns-3
 unfolding quickRecord
 returns-3 c =
@@ -48,12 +36,4 @@ returns-4 c =
 pub quick-record-spec : {M : Type 1} → statement M
 quick-record-spec =
     tie.close
-    (tie.spec
-    returns
-    returns-2
-    byte-at-requires
-    add-read-u24
-    read-u24-requires
-    plain-write-requires
-    returns-3
-    returns-4)
+    (tie.spec returns returns-2 (search needs) (search needs) (search needs) (search needs) returns-3 returns-4)

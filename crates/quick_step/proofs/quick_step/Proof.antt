@@ -13,9 +13,6 @@ bounds c =
     let a = c .before .before .args in
     current-bounds (a .file .now) (a .header) (a .progress) (c .current-part .result) (a .cards .count) (c .current-part .ensures)
 
-current-part-requires : tie.Need-current-part-requires
-current-part-requires c κs = search needs
-
 plain-step-requires : tie.Need-plain-step-requires
 plain-step-requires c κs = bounds c
 
@@ -37,4 +34,4 @@ returns-2 c =
 pub quick-step-spec : {M : Type 1} → statement M
 quick-step-spec =
     tie.close
-    (tie.spec current-part-requires plain-step-requires returns fill-step-requires returns-2)
+    (tie.spec (search needs) plain-step-requires returns fill-step-requires returns-2)

@@ -36,9 +36,6 @@ abbrev μ-loop : tie.MeasureT-loop
 put-plain-requires : tie.Need-put-plain-requires Inv-loop μ-loop
 put-plain-requires c κs = (c .before .before .pre .0, c .before .before .pre .1)
 
-held-requires : tie.Need-held-requires Inv-loop μ-loop
-held-requires c κs = search needs
-
 loop-holds : tie.Need-loop-holds Inv-loop μ-loop
 loop-holds c =
     let p = c .before in
@@ -46,22 +43,10 @@ loop-holds c =
     let none = with-none (targetOf (a .version) []) (a .t2 .cards) (held (a .version) (a .t2)) in
     (omega arith, omega arith, rw (c .held .ensures .0, none) (p .put-plain .ensures .0), rw (c .held .ensures .0, none) (p .put-plain .ensures .1))
 
-sub-i : tie.Need-sub-i Inv-loop μ-loop
-sub-i c = search needs
-
-mul-card : tie.Need-mul-card Inv-loop μ-loop
-mul-card c = search needs
-
-element-copy-out-card : tie.Need-element-copy-out-card Inv-loop μ-loop
-element-copy-out-card c = search needs
-
 put-card-requires : tie.Need-put-card-requires Inv-loop μ-loop
 put-card-requires c κs =
     let l = c .before .before .before .before in
     (rw (l .loop .inv .2) (length-starts _), rw (l .loop .inv .3) (length-ends _))
-
-loop-less : tie.Need-loop-less Inv-loop μ-loop
-loop-less c = search needs
 
 loop-again : tie.Need-loop-again Inv-loop μ-loop
 loop-again c =
@@ -86,16 +71,4 @@ returns c =
 pub address-ranges-spec : {M : Type 1} → statement M
 address-ranges-spec =
     tie.close
-    (tie.spec
-    Inv-loop
-    μ-loop
-    put-plain-requires
-    held-requires
-    loop-holds
-    sub-i
-    mul-card
-    element-copy-out-card
-    put-card-requires
-    loop-less
-    loop-again
-    returns)
+    (tie.spec Inv-loop μ-loop put-plain-requires (search needs) loop-holds (search needs) (search needs) (search needs) put-card-requires (search needs) loop-again returns)

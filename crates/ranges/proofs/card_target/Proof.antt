@@ -4,9 +4,6 @@ use Rattle.ranges.specs.Ranges.{cardTarget}
 use Rattle.ranges.proofs.card_target.Statement.{statement}
 use Rattle.ranges.proofs.card_target.Tie as tie
 
-one-card-wrong-requires : tie.Need-one-card-wrong-requires
-one-card-wrong-requires c κs = search needs
-
 returns : tie.Need-returns
 unfolding cardTarget
 returns c = simp (← (c .before .one-card-wrong .ensures), c .if1 .taken)
@@ -16,4 +13,4 @@ unfolding cardTarget
 returns-2 c = simp (← (c .before .one-card-wrong .ensures), c .if1 .left)
 
 pub card-target-spec : {M : Type 1} → statement M
-card-target-spec = tie.close (tie.spec one-card-wrong-requires returns returns-2)
+card-target-spec = tie.close (tie.spec (search needs) returns returns-2)

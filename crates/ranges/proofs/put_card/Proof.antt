@@ -7,18 +7,6 @@ use Rattle.ranges.proofs.put_card.Tie as tie
 returns : tie.Need-returns
 returns c = (rw (lt-ltb _ _ (c .if1 .taken)), rw (lt-ltb _ _ (c .if1 .taken)))
 
-cast-put-target : tie.Need-cast-put-target
-cast-put-target c = search needs
-
-add-put-target : tie.Need-add-put-target
-add-put-target c = search needs
-
-card-target-requires : tie.Need-card-target-requires
-card-target-requires c κs = search needs
-
-put-target-requires : tie.Need-put-target-requires
-put-target-requires c κs = search needs
-
 returns-2 : tie.Need-returns-2
 returns-2 c =
     let t = c .before in
@@ -28,10 +16,4 @@ returns-2 c =
 pub put-card-spec : {M : Type 1} → statement M
 put-card-spec =
     tie.close
-    (tie.spec
-    returns
-    cast-put-target
-    add-put-target
-    card-target-requires
-    put-target-requires
-    returns-2)
+    (tie.spec returns (search needs) (search needs) (search needs) (search needs) returns-2)

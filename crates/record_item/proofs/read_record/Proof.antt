@@ -20,33 +20,6 @@ returns-2 c =
     let a = c .before .before .before .args in
     simp (lt-ltb (a .limit) (a .at + 5) (omega arith))
 
-byte-at-requires : tie.Need-byte-at-requires
-byte-at-requires c κs = search needs
-
-add-read-u24 : tie.Need-add-read-u24
-add-read-u24 c = search needs
-
-read-u24-requires : tie.Need-read-u24-requires
-read-u24-requires c κs = search needs
-
-add-byte-at : tie.Need-add-byte-at
-add-byte-at c = search needs
-
-byte-at-requires-2 : tie.Need-byte-at-requires-2
-byte-at-requires-2 c κs = search needs
-
-target-number-requires : tie.Need-target-number-requires
-target-number-requires c κs = search needs
-
-find-target-requires : tie.Need-find-target-requires
-find-target-requires c κs = search needs
-
-add-allow : tie.Need-add-allow
-add-allow c = search needs
-
-allow-requires : tie.Need-allow-requires
-allow-requires c κs = search needs
-
 returns-3 : tie.Need-returns-3
 unfolding recordAt
 returns-3 c =
@@ -60,16 +33,4 @@ returns-3 c =
 pub read-record-spec : {M : Type 1} → statement M
 read-record-spec =
     tie.close
-    (tie.spec
-    returns
-    returns-2
-    byte-at-requires
-    add-read-u24
-    read-u24-requires
-    add-byte-at
-    byte-at-requires-2
-    target-number-requires
-    find-target-requires
-    add-allow
-    allow-requires
-    returns-3)
+    (tie.spec returns returns-2 (search needs) (search needs) (search needs) (search needs) (search needs) (search needs) (search needs) (search needs) (search needs) returns-3)

@@ -51,9 +51,6 @@ few c =
 loop-holds : tie.Need-loop-holds Inv-loop μ-loop
 loop-holds c = let p = c .before .pre in (refl, p .0, refl, omega arith, omega arith, omega arith, p .1, refl, p .4)
 
-starts-wave-requires : tie.Need-starts-wave-requires Inv-loop μ-loop
-starts-wave-requires c κs = search needs
-
 add-wave-requires : tie.Need-add-wave-requires Inv-loop μ-loop
 add-wave-requires c κs =
     let l = c .before .before .before .before .before .before .loop in
@@ -148,22 +145,4 @@ returns c =
 pub measure-frame-spec : {M : Type 1} → statement M
 measure-frame-spec =
     tie.close
-    (tie.spec
-    Inv-loop
-    μ-loop
-    loop-holds
-    starts-wave-requires
-    add-wave-requires
-    note-use-requires
-    add-uses
-    add-at
-    sub-left
-    add-size
-    loop-less
-    loop-again
-    add-at-2
-    sub-left-2
-    add-size-2
-    loop-less-2
-    loop-again-2
-    returns)
+    (tie.spec Inv-loop μ-loop loop-holds (search needs) add-wave-requires note-use-requires add-uses add-at sub-left add-size loop-less loop-again add-at-2 sub-left-2 add-size-2 loop-less-2 loop-again-2 returns)

@@ -42,12 +42,6 @@ inside c =
 loop-holds : tie.Need-loop-holds Inv-loop μ-loop
 loop-holds c = (c .before .pre .2, c .before .pre .0, refl, omega arith, omega arith, omega arith, c .before .pre .1, refl, omega arith)
 
-read-u16-requires : tie.Need-read-u16-requires Inv-loop μ-loop
-read-u16-requires c κs = search needs
-
-cast-records : tie.Need-cast-records Inv-loop μ-loop
-cast-records c = search needs
-
 add-measure-frame : tie.Need-add-measure-frame Inv-loop μ-loop
 add-measure-frame c =
     let l = c .before .before .loop in
@@ -109,20 +103,4 @@ returns c =
 pub measure-frames-spec : {M : Type 1} → statement M
 measure-frames-spec =
     tie.close
-    (tie.spec
-    Inv-loop
-    μ-loop
-    loop-holds
-    read-u16-requires
-    cast-records
-    add-measure-frame
-    measure-frame-requires
-    add-size
-    add-size-2
-    mul-at
-    add-at
-    add-at-2
-    sub-left
-    loop-less
-    loop-again
-    returns)
+    (tie.spec Inv-loop μ-loop loop-holds (search needs) (search needs) add-measure-frame measure-frame-requires add-size add-size-2 mul-at add-at add-at-2 sub-left loop-less loop-again returns)

@@ -18,9 +18,6 @@ use Rattle.repack_layout.proofs.Numbers.{directory-long, header-long, new-versi
 use Rattle.repack_file.proofs.write_front.Statement.{statement}
 use Rattle.repack_file.proofs.write_front.Tie as tie
 
-cast-records : tie.Need-cast-records
-cast-records c = search needs
-
 new-header-requires : tie.Need-new-header-requires
 new-header-requires c κs =
     let p = c .before .before .before .before .pre in
@@ -54,9 +51,6 @@ put-waves-requires c κs =
     let p = c .before .before .before .before .before .before .before .before .before .before .before .before .before .before .before .before .before .pre in
     (p .waves-inside, omega arith)
 
-same-length : tie.Need-same-length
-same-length c = search needs
-
 returns : tie.Need-returns
 returns c =
     let a = c .before .before .before .before .before .before .before .before .before .before .before .before .before .before .before .before .before .before .before .before .args in
@@ -79,13 +73,4 @@ returns c =
 pub write-front-spec : {M : Type 1} → statement M
 write-front-spec =
     tie.close
-    (tie.spec
-    cast-records
-    new-header-requires
-    put-header-requires
-    put-directory-requires
-    put-pcm-requires
-    add-put-waves
-    put-waves-requires
-    same-length
-    returns)
+    (tie.spec (search needs) new-header-requires put-header-requires put-directory-requires put-pcm-requires add-put-waves put-waves-requires (search needs) returns)

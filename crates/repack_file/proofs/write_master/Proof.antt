@@ -19,12 +19,6 @@ use Rattle.repack_layout.proofs.Numbers.{front-size}
 use Rattle.repack_file.proofs.write_master.Statement.{statement}
 use Rattle.repack_file.proofs.write_master.Tie as tie
 
-cast-records : tie.Need-cast-records
-cast-records c = search needs
-
-cast-frames : tie.Need-cast-frames
-cast-frames c = search needs
-
 mul-start : tie.Need-mul-start
 mul-start c = omega (arith, c .before .before .before .before .pre .0 .opening-fits)
 
@@ -45,9 +39,6 @@ put-opening-requires c κs =
     let all-at = total-at (p .0) (p .1) in
     (p .0 .opening-fits, omega arith, omega (arith, pcm-few (p .0)))
 
-pcm-pool-requires : tie.Need-pcm-pool-requires
-pcm-pool-requires c κs = search needs
-
 put-frames-requires : tie.Need-put-frames-requires
 put-frames-requires c κs =
     let a = c .before .before .before .before .before .before .before .before .before .before .before .before .before .before .args in
@@ -55,9 +46,6 @@ put-frames-requires c κs =
     let all-at = total-at (p .0) (p .1) in
     let pool = c .before .pcm-pool .ensures in
     (lists (p .0), marked (p .0), p .0 .frames-fit, pool .1, rw (pool .0, frames-are (p .0) (pcmPool (a .pcm))) (omega arith))
-
-same-length : tie.Need-same-length
-same-length c = search needs
 
 returns : tie.Need-returns
 returns c =
@@ -81,14 +69,4 @@ returns c =
 pub write-master-spec : {M : Type 1} → statement M
 write-master-spec =
     tie.close
-    (tie.spec
-    cast-records
-    cast-frames
-    mul-start
-    add-start
-    write-front-requires
-    put-opening-requires
-    pcm-pool-requires
-    put-frames-requires
-    same-length
-    returns)
+    (tie.spec (search needs) (search needs) mul-start add-start write-front-requires put-opening-requires (search needs) put-frames-requires (search needs) returns)

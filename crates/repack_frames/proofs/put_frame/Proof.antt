@@ -13,15 +13,6 @@ use Rattle.master.proofs.Numbered.{frame-by-size}
 use Rattle.repack_frames.proofs.put_frame.Statement.{statement}
 use Rattle.repack_frames.proofs.put_frame.Tie as tie
 
-read-u16-requires : tie.Need-read-u16-requires
-read-u16-requires c κs = search needs
-
-cast-records : tie.Need-cast-records
-cast-records c = search needs
-
-add-start : tie.Need-add-start
-add-start c = search needs
-
 add-behind : tie.Need-add-behind
 add-behind c =
     let a = c .before .before .before .args in
@@ -37,12 +28,6 @@ cast-put-u16 : tie.Need-cast-put-u16
 cast-put-u16 c =
     let a = c .before .before .before .before .before .before .before .before .before .args in
     omega (arith, c .before .before .before .before .put-pieces .ensures .1, pieces-few (a .file .now) (c .before .before .before .before .before .before .read-u16 .result) (a .from + 2), c .before .before .before .before .before .before .read-u16)
-
-put-u16-requires : tie.Need-put-u16-requires
-put-u16-requires c κs = search needs
-
-same-length : tie.Need-same-length
-same-length c = search needs
 
 returns : tie.Need-returns
 unfolding frameBy
@@ -61,13 +46,4 @@ returns c =
 pub put-frame-spec : {M : Type 1} → statement M
 put-frame-spec =
     tie.close
-    (tie.spec
-    read-u16-requires
-    cast-records
-    add-start
-    add-behind
-    put-pieces-requires
-    cast-put-u16
-    put-u16-requires
-    same-length
-    returns)
+    (tie.spec (search needs) (search needs) (search needs) add-behind put-pieces-requires cast-put-u16 (search needs) (search needs) returns)

@@ -47,12 +47,6 @@ put-frame-requires c κs =
     let size = ap length next ∙ length-append (frameBy numbers (a .base) (l .used) file (l .from)) (framesBy numbers (a .base) (l .used + length (usesAt file (be 2 file (l .from)) (l .from + 2))) file (l .left - 1) (behindFrame file (l .from))) in
     (p .0, frame-marked (l .inv .1) more, omega (arith, frame-within file (l .left) (l .from) more, l .inv .0), p .3, omega (arith, size, l .inv .2 .fits))
 
-read-u16-requires : tie.Need-read-u16-requires Inv-loop μ-loop
-read-u16-requires c κs = search needs
-
-cast-from : tie.Need-cast-from Inv-loop μ-loop
-cast-from c = search needs
-
 mul-from : tie.Need-mul-from Inv-loop μ-loop
 mul-from c = omega (arith, inside c)
 
@@ -61,12 +55,6 @@ add-from c = omega (arith, inside c)
 
 add-from-2 : tie.Need-add-from-2 Inv-loop μ-loop
 add-from-2 c = omega (arith, inside c)
-
-sub-left : tie.Need-sub-left Inv-loop μ-loop
-sub-left c = search needs
-
-loop-less : tie.Need-loop-less Inv-loop μ-loop
-loop-less c = search needs
 
 loop-again : tie.Need-loop-again Inv-loop μ-loop
 loop-again c =
@@ -85,9 +73,6 @@ loop-again c =
       wrote (l .inv .2) here (framesBy numbers (a .base) (l .used + length (usesAt file (be 2 file (l .from)) (l .from + 2))) file (l .left - 1) (behindFrame file (l .from))) (length here) (frames-by-next numbers (a .base) file (l .used) (l .left) (l .from) more) refl (wrote-frame .1) (wrote-frame .0),
     )
 
-same-length : tie.Need-same-length Inv-loop μ-loop
-same-length c = search needs
-
 returns : tie.Need-returns Inv-loop μ-loop
 returns c =
     let l = c .before .loop in
@@ -98,18 +83,4 @@ returns c =
 pub put-frames-spec : {M : Type 1} → statement M
 put-frames-spec =
     tie.close
-    (tie.spec
-    Inv-loop
-    μ-loop
-    loop-holds
-    put-frame-requires
-    read-u16-requires
-    cast-from
-    mul-from
-    add-from
-    add-from-2
-    sub-left
-    loop-less
-    loop-again
-    same-length
-    returns)
+    (tie.spec Inv-loop μ-loop loop-holds put-frame-requires (search needs) (search needs) mul-from add-from add-from-2 (search needs) (search needs) loop-again (search needs) returns)

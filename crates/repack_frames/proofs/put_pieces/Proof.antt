@@ -75,9 +75,6 @@ mul-wide c = omega (arith, c .before .loop .inv .4 .few)
 element-copy-out-wide : tie.Need-element-copy-out-wide Inv-loop μ-loop
 element-copy-out-wide c = omega (arith, c .before .loop .inv .4 .few)
 
-wide-requires : tie.Need-wide-requires Inv-loop μ-loop
-wide-requires c κs = search needs
-
 mul-pool : tie.Need-mul-pool Inv-loop μ-loop
 mul-pool c = omega (arith, use-few c)
 
@@ -164,9 +161,6 @@ loop-again c =
     ))
     (c .if1 .came)
 
-same-length : tie.Need-same-length Inv-loop μ-loop
-same-length c = search needs
-
 returns : tie.Need-returns Inv-loop μ-loop
 returns c =
     let l = c .before .loop in
@@ -179,29 +173,4 @@ returns c =
 pub put-pieces-spec : {M : Type 1} → statement M
 put-pieces-spec =
     tie.close
-    (tie.spec
-    Inv-loop
-    μ-loop
-    loop-holds
-    mul-wide
-    element-copy-out-wide
-    wide-requires
-    mul-pool
-    element-copy-out-pool
-    cast-pool
-    add-pool
-    cast-put-wave-copy
-    put-wave-copy-requires
-    add-uses
-    add-from
-    sub-left
-    add-place
-    put-record-requires
-    add-from-2
-    sub-left-2
-    add-place-2
-    add-pieces
-    loop-less
-    loop-again
-    same-length
-    returns)
+    (tie.spec Inv-loop μ-loop loop-holds mul-wide element-copy-out-wide (search needs) mul-pool element-copy-out-pool cast-pool add-pool cast-put-wave-copy put-wave-copy-requires add-uses add-from sub-left add-place put-record-requires add-from-2 sub-left-2 add-place-2 add-pieces loop-less loop-again (search needs) returns)

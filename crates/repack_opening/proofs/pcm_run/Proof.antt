@@ -26,12 +26,6 @@ shared-slice-read-if1 c = omega arith
 add-read-u24 : tie.Need-add-read-u24 Inv-loop μ-loop
 add-read-u24 c = omega arith
 
-read-u24-requires : tie.Need-read-u24-requires Inv-loop μ-loop
-read-u24-requires c κs = search needs
-
-cast-if2 : tie.Need-cast-if2 Inv-loop μ-loop
-cast-if2 c = search needs
-
 returns : tie.Need-returns Inv-loop μ-loop
 returns c =
     let l = c .before .before .before .before .before .loop in
@@ -68,18 +62,4 @@ returns-2 c =
 pub pcm-run-spec : {M : Type 1} → statement M
 pcm-run-spec =
     tie.close
-    (tie.spec
-    Inv-loop
-    μ-loop
-    loop-holds
-    shared-slice-read-if1
-    add-read-u24
-    read-u24-requires
-    cast-if2
-    returns
-    add-pcm
-    add-at
-    sub-left
-    loop-less
-    loop-again
-    returns-2)
+    (tie.spec Inv-loop μ-loop loop-holds shared-slice-read-if1 add-read-u24 (search needs) (search needs) returns add-pcm add-at sub-left loop-less loop-again returns-2)

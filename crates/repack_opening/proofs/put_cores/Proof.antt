@@ -34,9 +34,6 @@ loop-holds c =
     let a = c .before .before .args in
     (c .before .before .pre .0, starts (coreBytes (a .file .now) (a .count) 20) (a .at) (a .buffer .now) (c .before .before .pre .1))
 
-shared-slice-read-if1 : tie.Need-shared-slice-read-if1 Inv-loop μ-loop
-shared-slice-read-if1 c = search needs
-
 put-record-requires : tie.Need-put-record-requires Inv-loop μ-loop
 put-record-requires c κs =
     let l = c .before .before .before .before .loop in
@@ -46,15 +43,6 @@ add-place : tie.Need-add-place Inv-loop μ-loop
 add-place c =
     let l = c .before .before .before .before .before .before .before .loop in
     omega (arith, size (c .before .before .before .before .before .before .before .before .before .before .args .file .now) (l .left) (l .from) (c .before .before .before .before .before .before .loop-test .taken) (c .before .before .before .before .if1 .taken), l .inv .1 .fits)
-
-add-from : tie.Need-add-from Inv-loop μ-loop
-add-from c = search needs
-
-sub-left : tie.Need-sub-left Inv-loop μ-loop
-sub-left c = search needs
-
-loop-less : tie.Need-loop-less Inv-loop μ-loop
-loop-less c = search needs
 
 loop-again : tie.Need-loop-again Inv-loop μ-loop
 loop-again c =
@@ -69,9 +57,6 @@ loop-again c =
           (c .if1 .came),
     )
 
-same-length : tie.Need-same-length Inv-loop μ-loop
-same-length c = search needs
-
 returns : tie.Need-returns Inv-loop μ-loop
 returns c =
     let l = c .before .loop in
@@ -81,16 +66,4 @@ returns c =
 pub put-cores-spec : {M : Type 1} → statement M
 put-cores-spec =
     tie.close
-    (tie.spec
-    Inv-loop
-    μ-loop
-    loop-holds
-    shared-slice-read-if1
-    put-record-requires
-    add-place
-    add-from
-    sub-left
-    loop-less
-    loop-again
-    same-length
-    returns)
+    (tie.spec Inv-loop μ-loop loop-holds (search needs) put-record-requires add-place (search needs) (search needs) (search needs) loop-again (search needs) returns)

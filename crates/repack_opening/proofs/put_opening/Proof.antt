@@ -18,9 +18,6 @@ size file count pcm =
     ∙ length-append (fillPart pcm) (coreBytes file count 20 ++ copyPart pcm)
     ∙ ap (λ (n : ℕ). length (fillPart pcm) + n) (length-append (coreBytes file count 20) (copyPart pcm))
 
-fill-size-requires : tie.Need-fill-size-requires
-fill-size-requires c κs = search needs
-
 add-cores : tie.Need-add-cores
 add-cores c =
     let a = c .before .before .before .args in
@@ -41,9 +38,6 @@ put-pcm-copy-requires c κs =
     let a = c .before .before .before .before .before .before .before .before .before .before .before .before .args in
     (omega (arith, c .before .before .before .before .before .before .before .before .before .before .before .before .pre .1, size (a .file .now) (a .count) (a .pcm), c .before .before .before .before .before .before .before .before .before .fill-size .ensures .0, c .before .before .before .put-cores .ensures .1), c .before .before .before .before .before .before .before .before .before .before .before .before .pre .2)
 
-same-length : tie.Need-same-length
-same-length c = search needs
-
 returns : tie.Need-returns
 returns c =
     let a = c .before .before .before .before .before .before .before .before .before .before .before .before .before .before .before .args in
@@ -58,11 +52,4 @@ returns c =
 pub put-opening-spec : {M : Type 1} → statement M
 put-opening-spec =
     tie.close
-    (tie.spec
-    fill-size-requires
-    add-cores
-    put-pcm-fill-requires
-    put-cores-requires
-    put-pcm-copy-requires
-    same-length
-    returns)
+    (tie.spec (search needs) add-cores put-pcm-fill-requires put-cores-requires put-pcm-copy-requires (search needs) returns)

@@ -14,16 +14,10 @@ returns c =
     let a = c .before .before .args in
     rw (no-copy (a .pcm) (c .if1 .taken)) (sym (put-none (a .at) (a .buffer .now) (omega arith)))
 
-cast-put-copy : tie.Need-cast-put-copy
-cast-put-copy c = search needs
-
 put-copy-requires : tie.Need-put-copy-requires
 put-copy-requires c κs =
     let a = c .before .before .before .args in
     omega (arith, ap length (some-copy (a .pcm) (c .before .if1 .left)), copy-size 2 0 0 (a .pcm))
-
-same-length : tie.Need-same-length
-same-length c = search needs
 
 returns-2 : tie.Need-returns-2
 returns-2 c =
@@ -32,4 +26,4 @@ returns-2 c =
 
 pub put-pcm-copy-spec : {M : Type 1} → statement M
 put-pcm-copy-spec =
-    tie.close (tie.spec returns cast-put-copy put-copy-requires same-length returns-2)
+    tie.close (tie.spec returns (search needs) put-copy-requires (search needs) returns-2)

@@ -20,22 +20,10 @@ returns-2 c =
     let a = c .before .before .before .args in
     rw (full-fill (a .pcm) (c .if2 .taken)) (sym (put-none (a .at) (a .buffer .now) (omega arith)))
 
-cast-put-fill : tie.Need-cast-put-fill
-cast-put-fill c = search needs
-
-sub-put-fill : tie.Need-sub-put-fill
-sub-put-fill c = search needs
-
-cast-put-fill-2 : tie.Need-cast-put-fill-2
-cast-put-fill-2 c = search needs
-
 put-fill-requires : tie.Need-put-fill-requires
 put-fill-requires c κs =
     let a = c .before .before .before .before .args in
     omega (arith, ap length (some-fill (a .pcm) (c .before .before .if1 .left) (c .before .if2 .left)), fill-size 2 (a .pcm) (1048576 - a .pcm) 0x80)
-
-same-length : tie.Need-same-length
-same-length c = search needs
 
 returns-3 : tie.Need-returns-3
 returns-3 c =
@@ -45,12 +33,4 @@ returns-3 c =
 pub put-pcm-fill-spec : {M : Type 1} → statement M
 put-pcm-fill-spec =
     tie.close
-    (tie.spec
-    returns
-    returns-2
-    cast-put-fill
-    sub-put-fill
-    cast-put-fill-2
-    put-fill-requires
-    same-length
-    returns-3)
+    (tie.spec returns returns-2 (search needs) (search needs) (search needs) put-fill-requires (search needs) returns-3)

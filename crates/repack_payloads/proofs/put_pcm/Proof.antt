@@ -26,15 +26,6 @@ loop-holds c =
     let a = c .args in
     (c .pre .0, starts (pcmBytes (a .file .now) (a .count) 20) (a .at) (a .buffer .now) (c .pre .1))
 
-shared-slice-read-if1 : tie.Need-shared-slice-read-if1 Inv-loop μ-loop
-shared-slice-read-if1 c = search needs
-
-add-buffer : tie.Need-add-buffer Inv-loop μ-loop
-add-buffer c = search needs
-
-shared-slice-read-buffer : tie.Need-shared-slice-read-buffer Inv-loop μ-loop
-shared-slice-read-buffer c = search needs
-
 slice-write-buffer : tie.Need-slice-write-buffer Inv-loop μ-loop
 slice-write-buffer c =
     let l = c .before .before .before .before .loop in
@@ -44,15 +35,6 @@ add-place : tie.Need-add-place Inv-loop μ-loop
 add-place c =
     let l = c .before .before .before .before .loop in
     omega (arith, ap length (pcm-byte (c .before .before .before .before .before .args .file .now) (l .left) (l .from) (c .before .before .before .loop-test .taken) (c .before .if1 .taken)), l .inv .1 .fits)
-
-add-from : tie.Need-add-from Inv-loop μ-loop
-add-from c = search needs
-
-sub-left : tie.Need-sub-left Inv-loop μ-loop
-sub-left c = search needs
-
-loop-less : tie.Need-loop-less Inv-loop μ-loop
-loop-less c = search needs
 
 loop-again : tie.Need-loop-again Inv-loop μ-loop
 loop-again c =
@@ -69,9 +51,6 @@ loop-again c =
           (c .if1 .came),
     )
 
-same-length : tie.Need-same-length Inv-loop μ-loop
-same-length c = search needs
-
 returns : tie.Need-returns Inv-loop μ-loop
 returns c =
     let l = c .before .loop in
@@ -81,18 +60,4 @@ returns c =
 pub put-pcm-spec : {M : Type 1} → statement M
 put-pcm-spec =
     tie.close
-    (tie.spec
-    Inv-loop
-    μ-loop
-    loop-holds
-    shared-slice-read-if1
-    add-buffer
-    shared-slice-read-buffer
-    slice-write-buffer
-    add-place
-    add-from
-    sub-left
-    loop-less
-    loop-again
-    same-length
-    returns)
+    (tie.spec Inv-loop μ-loop loop-holds (search needs) (search needs) (search needs) slice-write-buffer add-place (search needs) (search needs) (search needs) loop-again (search needs) returns)

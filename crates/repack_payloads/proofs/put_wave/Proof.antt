@@ -24,12 +24,6 @@ loop-holds c =
     let a = c .args in
     (refl, starts (valuesAt (a .file .now) 256 (a .start)) (a .at) (a .buffer .now) (rw (values-count (a .file .now) 256 (a .start)) (c .pre .1)))
 
-add-buffer : tie.Need-add-buffer Inv-loop μ-loop
-add-buffer c = search needs
-
-shared-slice-read-buffer : tie.Need-shared-slice-read-buffer Inv-loop μ-loop
-shared-slice-read-buffer c = search needs
-
 slice-write-buffer : tie.Need-slice-write-buffer Inv-loop μ-loop
 slice-write-buffer c =
     let l = c .before .before .loop in
@@ -40,24 +34,12 @@ add-place c =
     let l = c .before .before .loop in
     omega (arith, values-count (c .before .before .before .args .file .now) (l .left) (l .from), l .inv .1 .fits)
 
-add-from : tie.Need-add-from Inv-loop μ-loop
-add-from c = search needs
-
-sub-left : tie.Need-sub-left Inv-loop μ-loop
-sub-left c = search needs
-
-loop-less : tie.Need-loop-less Inv-loop μ-loop
-loop-less c = search needs
-
 loop-again : tie.Need-loop-again Inv-loop μ-loop
 loop-again c =
     let l = c .before .before .loop in
     let file = c .before .before .before .args .file .now in
     let room = values-count file (l .left) (l .from) in
     (omega arith, wrote (l .inv .1) (byte file (l .from + 4) ∷ []) (valuesAt file (l .left - 1) (l .from + 5)) 1 (values-next file (l .left) (l .from) (c .before .loop-test .taken)) refl refl (put-byte (byte file (l .from + 4)) (l .place) (l .buffer) (omega (arith, l .inv .1 .fits))))
-
-same-length : tie.Need-same-length Inv-loop μ-loop
-same-length c = search needs
 
 returns : tie.Need-returns Inv-loop μ-loop
 returns c =
@@ -68,17 +50,4 @@ returns c =
 pub put-wave-spec : {M : Type 1} → statement M
 put-wave-spec =
     tie.close
-    (tie.spec
-    Inv-loop
-    μ-loop
-    loop-holds
-    add-buffer
-    shared-slice-read-buffer
-    slice-write-buffer
-    add-place
-    add-from
-    sub-left
-    loop-less
-    loop-again
-    same-length
-    returns)
+    (tie.spec Inv-loop μ-loop loop-holds (search needs) (search needs) slice-write-buffer add-place (search needs) (search needs) (search needs) loop-again (search needs) returns)

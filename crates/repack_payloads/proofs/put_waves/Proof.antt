@@ -45,12 +45,6 @@ add-place c =
     let a = c .before .before .before .before .before .before .before .before .before .args in
     omega (arith, waves-size (a .file .now) (a .places .now) (l .wave) (a .count - l .wave), l .inv .1 .fits)
 
-add-wave : tie.Need-add-wave Inv-loop μ-loop
-add-wave c = search needs
-
-loop-less : tie.Need-loop-less Inv-loop μ-loop
-loop-less c = search needs
-
 loop-again : tie.Need-loop-again Inv-loop μ-loop
 loop-again c =
     let l = c .before .before .before .before .before .before .loop in
@@ -59,9 +53,6 @@ loop-again c =
     let places = a .places .now in
     let place = getD places (l .wave) 0 in
     (omega arith, wrote (l .inv .1) (waveAt file place) (wavesBytes file places (l .wave + 1) (a .count - (l .wave + 1))) 256 (waves-next file places (l .wave) (a .count) (c .before .before .before .before .before .loop-test .taken)) (wave-size file place) refl (c .before .before .put-wave .ensures))
-
-same-length : tie.Need-same-length Inv-loop μ-loop
-same-length c = search needs
 
 returns : tie.Need-returns Inv-loop μ-loop
 returns c =
@@ -73,17 +64,4 @@ returns c =
 pub put-waves-spec : {M : Type 1} → statement M
 put-waves-spec =
     tie.close
-    (tie.spec
-    Inv-loop
-    μ-loop
-    loop-holds
-    mul-put-wave
-    element-copy-out-put-wave
-    cast-put-wave
-    put-wave-requires
-    add-place
-    add-wave
-    loop-less
-    loop-again
-    same-length
-    returns)
+    (tie.spec Inv-loop μ-loop loop-holds mul-put-wave element-copy-out-put-wave cast-put-wave put-wave-requires add-place (search needs) (search needs) loop-again (search needs) returns)

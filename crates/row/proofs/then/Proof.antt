@@ -3,12 +3,6 @@ use borrow.Author.Needs.{needs}
 use Rattle.row.proofs.then.Statement.{statement}
 use Rattle.row.proofs.then.Tie as tie
 
-enum-told : tie.Need-enum-told
-enum-told c = search needs
-
-enum-known-check : tie.Need-enum-known-check
-enum-known-check c = search needs
-
 returns : tie.Need-returns
 returns c = rw (c .enum-told .given .1)
 
@@ -16,4 +10,4 @@ returns-2 : tie.Need-returns-2
 returns-2 c = rw (c .before .check .given .1)
 
 pub then-spec : {M : Type 1} → statement M
-then-spec = tie.close (tie.spec enum-told enum-known-check returns returns-2)
+then-spec = tie.close (tie.spec (search needs) (search needs) returns returns-2)

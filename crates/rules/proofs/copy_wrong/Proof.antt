@@ -5,18 +5,9 @@ use Rattle.format.proofs.Decided.{decided}
 use Rattle.rules.proofs.copy_wrong.Statement.{statement}
 use Rattle.rules.proofs.copy_wrong.Tie as tie
 
-add-end : tie.Need-add-end
-add-end c = search needs
-
-cast-size : tie.Need-cast-size
-cast-size c = search needs
-
 returns : tie.Need-returns
 unfolding copyWrong
 returns c = search decided
-
-kind-requires : tie.Need-kind-requires
-kind-requires c κs = search needs
 
 returns-2 : tie.Need-returns-2
 unfolding copyWrong
@@ -41,13 +32,4 @@ returns-6 c = search (decided, ← (c .before .before .before .before .kind .ens
 pub copy-wrong-spec : {M : Type 1} → statement M
 copy-wrong-spec =
     tie.close
-    (tie.spec
-    add-end
-    cast-size
-    returns
-    kind-requires
-    returns-2
-    returns-3
-    returns-4
-    returns-5
-    returns-6)
+    (tie.spec (search needs) (search needs) returns (search needs) returns-2 returns-3 returns-4 returns-5 returns-6)

@@ -16,9 +16,6 @@ returns-2 : tie.Need-returns-2
 unfolding countsWrong
 returns-2 c = simp (lt-ltb _ _ (c .if2 .taken), or-true)
 
-cast-if3 : tie.Need-cast-if3
-cast-if3 c = search needs
-
 returns-3 : tie.Need-returns-3
 unfolding countsWrong
 returns-3 c = simp (ne-eqb _ _ (c .if3 .taken), or-true)
@@ -27,20 +24,8 @@ returns-4 : tie.Need-returns-4
 unfolding countsWrong
 returns-4 c = simp (lt-ltb _ _ (c .if4 .taken), or-true)
 
-header-size-requires : tie.Need-header-size-requires
-header-size-requires c κs = search needs
-
-cast-behind : tie.Need-cast-behind
-cast-behind c = search needs
-
-mul-behind : tie.Need-mul-behind
-mul-behind c = search needs
-
 add-behind : tie.Need-add-behind
 add-behind c = omega (arith, header-small (c .before .before .before .before .before .before .before .before .before .before .args .header .version), c .before .header-size .ensures)
-
-cast-result : tie.Need-cast-result
-cast-result c = search needs
 
 returns-5 : tie.Need-returns-5
 unfolding countsWrong
@@ -50,15 +35,4 @@ returns-5 c =
 pub counts-wrong-spec : {M : Type 1} → statement M
 counts-wrong-spec =
     tie.close
-    (tie.spec
-    returns
-    returns-2
-    cast-if3
-    returns-3
-    returns-4
-    header-size-requires
-    cast-behind
-    mul-behind
-    add-behind
-    cast-result
-    returns-5)
+    (tie.spec returns returns-2 (search needs) returns-3 returns-4 (search needs) (search needs) (search needs) add-behind (search needs) returns-5)

@@ -6,15 +6,9 @@ use borrow.Author.Needs.{needs}
 use Rattle.sections.proofs.sections_wrong.Statement.{statement}
 use Rattle.sections.proofs.sections_wrong.Tie as tie
 
-cast-if1 : tie.Need-cast-if1
-cast-if1 c = search needs
-
 returns : tie.Need-returns
 unfolding sectionsWrong
 returns c = simp (ne-eqb _ _ (c .if1 .taken))
-
-cast-if2 : tie.Need-cast-if2
-cast-if2 c = search needs
 
 returns-2 : tie.Need-returns-2
 unfolding sectionsWrong
@@ -25,4 +19,4 @@ unfolding sectionsWrong
 returns-3 c = rw (eq-eqb _ _ (c .before .before .before .before .if1 .left), le-ltb _ _ (c .before .if2 .left))
 
 pub sections-wrong-spec : {M : Type 1} → statement M
-sections-wrong-spec = tie.close (tie.spec cast-if1 returns cast-if2 returns-2 returns-3)
+sections-wrong-spec = tie.close (tie.spec (search needs) returns (search needs) returns-2 returns-3)

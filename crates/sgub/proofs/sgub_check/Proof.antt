@@ -6,14 +6,8 @@ use borrow.Author.Needs.{needs}
 use Rattle.sgub.proofs.sgub_check.Statement.{statement}
 use Rattle.sgub.proofs.sgub_check.Tie as tie
 
-check-file-requires : tie.Need-check-file-requires
-check-file-requires c κs = search needs
-
-verdict-of-requires : tie.Need-verdict-of-requires
-verdict-of-requires c κs = search needs
-
 returns : tie.Need-returns
 returns c = c .verdict-of .ensures ∙ ap (λ (w : Whole). verdictOn (w .0)) (c .before .check-file .ensures)
 
 pub sgub-check-spec : {M : Type 1} → statement M
-sgub-check-spec = tie.close (tie.spec check-file-requires verdict-of-requires returns)
+sgub-check-spec = tie.close (tie.spec (search needs) (search needs) returns)

@@ -3,14 +3,8 @@ use borrow.Author.Needs.{needs}
 use Rattle.sgub.proofs.sgub_pool_entry.Statement.{statement}
 use Rattle.sgub.proofs.sgub_pool_entry.Tie as tie
 
-read-pool-requires : tie.Need-read-pool-requires
-read-pool-requires c κs = search needs
-
-entry-of-requires : tie.Need-entry-of-requires
-entry-of-requires c κs = search needs
-
 returns : tie.Need-returns
 returns c = simp (c .entry-of .ensures, c .before .read-pool .ensures)
 
 pub sgub-pool-entry-spec : {M : Type 1} → statement M
-sgub-pool-entry-spec = tie.close (tie.spec read-pool-requires entry-of-requires returns)
+sgub-pool-entry-spec = tie.close (tie.spec (search needs) (search needs) returns)

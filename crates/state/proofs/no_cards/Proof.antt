@@ -4,12 +4,9 @@ use Rattle.format.specs.State.{tableOf}
 use Rattle.state.proofs.no_cards.Statement.{statement}
 use Rattle.state.proofs.no_cards.Tie as tie
 
-no-card-requires : tie.Need-no-card-requires
-no-card-requires c κs = search needs
-
 returns : tie.Need-returns
 unfolding tableOf
 returns c = rw (c .no-card .ensures)
 
 pub no-cards-spec : {M : Type 1} → statement M
-no-cards-spec = tie.close (tie.spec no-card-requires returns)
+no-cards-spec = tie.close (tie.spec (search needs) returns)

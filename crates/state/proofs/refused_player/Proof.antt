@@ -4,12 +4,9 @@ use Rattle.format.specs.State.{refusedPlayer, unplayed}
 use Rattle.state.proofs.refused_player.Statement.{statement}
 use Rattle.state.proofs.refused_player.Tie as tie
 
-no-cards-requires : tie.Need-no-cards-requires
-no-cards-requires c κs = search needs
-
 returns : tie.Need-returns
 unfolding refusedPlayer unplayed
 returns c = rw (c .no-cards .ensures)
 
 pub refused-player-spec : {M : Type 1} → statement M
-refused-player-spec = tie.close (tie.spec no-cards-requires returns)
+refused-player-spec = tie.close (tie.spec (search needs) returns)

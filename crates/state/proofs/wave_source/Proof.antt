@@ -5,18 +5,6 @@ use Rattle.format.proofs.Decided.{decided}
 use Rattle.state.proofs.wave_source.Statement.{statement}
 use Rattle.state.proofs.wave_source.Tie as tie
 
-mul-i : tie.Need-mul-i
-mul-i c = search needs
-
-add-i : tie.Need-add-i
-add-i c = search needs
-
-mul-result : tie.Need-mul-result
-mul-result c = search needs
-
-element-copy-out-result : tie.Need-element-copy-out-result
-element-copy-out-result c = search needs
-
 returns : tie.Need-returns
 unfolding waveSource
 returns c = search decided
@@ -31,4 +19,4 @@ returns-3 c = search decided
 
 pub wave-source-spec : {M : Type 1} → statement M
 wave-source-spec =
-    tie.close (tie.spec mul-i add-i mul-result element-copy-out-result returns returns-2 returns-3)
+    tie.close (tie.spec (search needs) (search needs) (search needs) (search needs) returns returns-2 returns-3)

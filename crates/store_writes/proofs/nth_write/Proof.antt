@@ -16,9 +16,6 @@ use Rattle.widths.proofs.address_width.Reads as address-width-reads
 use Rattle.widths.proofs.read_address.Reads as read-address-reads
 use Rattle.plain_writes.proofs.plain_size.Reads as plain-size-reads
 
-plain-size-requires : tie.Need-plain-size-requires
-plain-size-requires c κs = search needs
-
 mul-window : tie.Need-mul-window
 mul-window c = omega (arith, c .before .before .pre, ap (λ (k : ℕ). c .before .before .args .index * k) (c .plain-size .ensures .0))
 
@@ -28,36 +25,12 @@ add-window c = omega (arith, c .before .before .pre, ap (λ (k : ℕ). c .before
 window-requires : tie.Need-window-requires
 window-requires c κs = omega (arith, c .before .before .pre, ap (λ (k : ℕ). c .before .before .args .index * k) (c .plain-size .ensures .0))
 
-byte-at-requires : tie.Need-byte-at-requires
-byte-at-requires c κs = search needs
-
-read-u24-requires : tie.Need-read-u24-requires
-read-u24-requires c κs = search needs
-
-byte-at-requires-2 : tie.Need-byte-at-requires-2
-byte-at-requires-2 c κs = search needs
-
 returns : tie.Need-returns
 returns c =
     let w = c .before .before .before .before in
     let a = w .before .before .before .args in
     let place : a .from + a .index * plainSize (a .version) ≡ a .from + a .index * w .before .plain-size .result = omega (arith, ap (λ (k : ℕ). a .index * k) (w .before .plain-size .ensures .0)) in
     rw (c .byte-at2 .ensures, c .before .read-u24 .ensures, c .before .before .byte-at .ensures, w .window .ensures, place) (write-first (a .version) (a .file .now) _ (eq-eqb _ _ (c .before .before .before .if1 .taken)))
-
-address-width-requires : tie.Need-address-width-requires
-address-width-requires c κs = search needs
-
-byte-at-requires-3 : tie.Need-byte-at-requires-3
-byte-at-requires-3 c κs = search needs
-
-read-address-requires : tie.Need-read-address-requires
-read-address-requires c κs = search needs
-
-add-byte-at : tie.Need-add-byte-at
-add-byte-at c = search needs
-
-byte-at-requires-4 : tie.Need-byte-at-requires-4
-byte-at-requires-4 c κs = search needs
 
 returns-2 : tie.Need-returns-2
 returns-2 c =
@@ -69,18 +42,4 @@ returns-2 c =
 pub nth-write-spec : {M : Type 1} → statement M
 nth-write-spec =
     tie.close
-    (tie.spec
-    plain-size-requires
-    mul-window
-    add-window
-    window-requires
-    byte-at-requires
-    read-u24-requires
-    byte-at-requires-2
-    returns
-    address-width-requires
-    byte-at-requires-3
-    read-address-requires
-    add-byte-at
-    byte-at-requires-4
-    returns-2)
+    (tie.spec (search needs) mul-window add-window window-requires (search needs) (search needs) (search needs) returns (search needs) (search needs) (search needs) (search needs) (search needs) returns-2)

@@ -15,9 +15,6 @@ returns c =
     let a = c .before .args in
     sym (storable-room (a .room) (a .size) (a .version) (a .from) (a .count) (c .if1 .taken))
 
-plain-size-requires : tie.Need-plain-size-requires
-plain-size-requires c κs = search needs
-
 returns-2 : tie.Need-returns-2
 returns-2 c =
     let a = c .before .before .before .args in
@@ -48,4 +45,4 @@ returns-4 c =
 pub storable-spec : {M : Type 1} → statement M
 storable-spec =
     tie.close
-    (tie.spec returns plain-size-requires returns-2 mul-if3 add-if3 sub-if3 returns-3 returns-4)
+    (tie.spec returns (search needs) returns-2 mul-if3 add-if3 sub-if3 returns-3 returns-4)

@@ -18,9 +18,6 @@ Inv-loop slot table count i₀ i =
 abbrev μ-loop : tie.MeasureT-loop
 μ-loop slot table count i₀ i = count - i
 
-held-requires : tie.Need-held-requires Inv-loop μ-loop
-held-requires c κs = search needs
-
 loop-holds : tie.Need-loop-holds Inv-loop μ-loop
 loop-holds c =
     let s = c .before in
@@ -62,15 +59,4 @@ returns-2 c =
 pub find-slot-spec : {M : Type 1} → statement M
 find-slot-spec =
     tie.close
-    (tie.spec
-    Inv-loop
-    μ-loop
-    held-requires
-    loop-holds
-    mul-card
-    element-copy-out-card
-    returns
-    add-i
-    loop-less
-    loop-again
-    returns-2)
+    (tie.spec Inv-loop μ-loop (search needs) loop-holds mul-card element-copy-out-card returns add-i loop-less loop-again returns-2)

@@ -21,12 +21,6 @@ returns-4 : tie.Need-returns-4
 unfolding targetOf
 returns-4 c = search decided
 
-slot-requires : tie.Need-slot-requires
-slot-requires c κs = search needs
-
-find-slot-requires : tie.Need-find-slot-requires
-find-slot-requires c κs = search needs
-
 returns-5 : tie.Need-returns-5
 unfolding targetOf
 returns-5 c = search (decided, c .before .slot .ensures, c .find-slot .ensures)
@@ -46,14 +40,4 @@ returns-8 c = search decided
 pub find-target-spec : {M : Type 1} → statement M
 find-target-spec =
     tie.close
-    (tie.spec
-    returns
-    returns-2
-    returns-3
-    returns-4
-    slot-requires
-    find-slot-requires
-    returns-5
-    returns-6
-    returns-7
-    returns-8)
+    (tie.spec returns returns-2 returns-3 returns-4 (search needs) (search needs) returns-5 returns-6 returns-7 returns-8)

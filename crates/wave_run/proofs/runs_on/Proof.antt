@@ -22,17 +22,8 @@ Inv-loop records target address left₀ place₀ head₀ left place head =
 abbrev μ-loop : tie.MeasureT-loop
 μ-loop records target address left₀ place₀ head₀ left place head = left
 
-mul-head : tie.Need-mul-head Inv-loop μ-loop
-mul-head c = search needs
-
-add-head : tie.Need-add-head Inv-loop μ-loop
-add-head c = search needs
-
 loop-holds : tie.Need-loop-holds Inv-loop μ-loop
 loop-holds c = (omega arith, omega arith, omega arith, rw add-zero)
-
-read-u32-requires : tie.Need-read-u32-requires Inv-loop μ-loop
-read-u32-requires c κs = search needs
 
 returns : tie.Need-returns Inv-loop μ-loop
 returns c =
@@ -42,18 +33,6 @@ returns c =
     let from = a .address + (256 - l .left) in
     let some = c .before .before .loop-test .taken in
     rw (l .inv .3, runs-not (a .records .now) (l .left) (a .target) from (l .place) some (head-differs (a .records .now) (l .place) bytes (a .target) from (omega arith) (λ e. c .if1 .taken (c .before .read-u32 .ensures ∙ e ∙ omega arith))))
-
-add-place : tie.Need-add-place Inv-loop μ-loop
-add-place c = search needs
-
-add-head-2 : tie.Need-add-head-2 Inv-loop μ-loop
-add-head-2 c = search needs
-
-sub-left : tie.Need-sub-left Inv-loop μ-loop
-sub-left c = search needs
-
-loop-less : tie.Need-loop-less Inv-loop μ-loop
-loop-less c = search needs
 
 loop-again : tie.Need-loop-again Inv-loop μ-loop
 loop-again c =
@@ -75,17 +54,4 @@ returns-2 c =
 pub runs-on-spec : {M : Type 1} → statement M
 runs-on-spec =
     tie.close
-    (tie.spec
-    Inv-loop
-    μ-loop
-    mul-head
-    add-head
-    loop-holds
-    read-u32-requires
-    returns
-    add-place
-    add-head-2
-    sub-left
-    loop-less
-    loop-again
-    returns-2)
+    (tie.spec Inv-loop μ-loop (search needs) (search needs) loop-holds (search needs) returns (search needs) (search needs) (search needs) (search needs) loop-again returns-2)

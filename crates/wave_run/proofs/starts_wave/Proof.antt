@@ -30,9 +30,6 @@ returns-2 c =
 add-read-u24 : tie.Need-add-read-u24
 add-read-u24 c = omega arith
 
-read-u24-requires : tie.Need-read-u24-requires
-read-u24-requires c κs = search needs
-
 returns-3 : tie.Need-returns-3
 returns-3 c =
     let a = c .before .before .before .before .before .before .args in
@@ -71,17 +68,4 @@ returns-5 c =
 pub starts-wave-spec : {M : Type 1} → statement M
 starts-wave-spec =
     tie.close
-    (tie.spec
-    returns
-    shared-slice-read-target
-    returns-2
-    add-read-u24
-    read-u24-requires
-    returns-3
-    returns-4
-    add-runs-on
-    sub-runs-on
-    part-runs-on-start
-    part-runs-on-end
-    runs-on-requires
-    returns-5)
+    (tie.spec returns shared-slice-read-target returns-2 add-read-u24 (search needs) returns-3 returns-4 add-runs-on sub-runs-on part-runs-on-start part-runs-on-end runs-on-requires returns-5)

@@ -6,9 +6,6 @@ use Rattle.wave_table.proofs.Table.{added-known, added-new}
 use Rattle.wave_table.proofs.add_wave.Statement.{statement}
 use Rattle.wave_table.proofs.add_wave.Tie as tie
 
-bucket-requires : tie.Need-bucket-requires
-bucket-requires c κs = search needs
-
 wave-number-requires : tie.Need-wave-number-requires
 wave-number-requires c κs = (c .before .before .before .before .before .pre .0, c .before .before .before .bucket .ensures, c .before .before .before .before .before .pre .1)
 
@@ -62,20 +59,4 @@ returns-2 c =
 pub add-wave-spec : {M : Type 1} → statement M
 add-wave-spec =
     tie.close
-    (tie.spec
-    bucket-requires
-    wave-number-requires
-    returns
-    mul-next
-    element-copy-out-next
-    mul-next-2
-    element-write-next
-    add-heads
-    cast-heads
-    mul-heads
-    element-write-heads
-    cast-places
-    mul-places
-    element-write-places
-    add-t17
-    returns-2)
+    (tie.spec (search needs) wave-number-requires returns mul-next element-copy-out-next mul-next-2 element-write-next add-heads cast-heads mul-heads element-write-heads cast-places mul-places element-write-places add-t17 returns-2)

@@ -5,17 +5,11 @@ use mathlib.Core.Path.{_≡_}
 use Rattle.widths.proofs.read_address.Statement.{statement}
 use Rattle.widths.proofs.read_address.Tie as tie
 
-read-u24-requires : tie.Need-read-u24-requires
-read-u24-requires c κs = search needs
-
 returns : tie.Need-returns
 returns c = rw (c .before .if1 .taken) (c .read-u24 .ensures)
-
-read-u32-requires : tie.Need-read-u32-requires
-read-u32-requires c κs = search needs
 
 returns-2 : tie.Need-returns-2
 returns-2 c = let four : c .before .before .before .args .width ≡ 4 = omega arith in rw four (c .read-u32 .ensures)
 
 pub read-address-spec : {M : Type 1} → statement M
-read-address-spec = tie.close (tie.spec read-u24-requires returns read-u32-requires returns-2)
+read-address-spec = tie.close (tie.spec (search needs) returns (search needs) returns-2)

@@ -4,25 +4,13 @@ use Rattle.writes.specs.Segment.{tooLong, fitting}
 use Rattle.writes.proofs.fitting.Statement.{statement}
 use Rattle.writes.proofs.fitting.Tie as tie
 
-passes-requires : tie.Need-passes-requires
-passes-requires c κs = search needs
-
 returns : tie.Need-returns
 unfolding tooLong fitting
 returns c = rw (← (c .before .passes .ensures), c .if1 .taken)
 
-cast-passes : tie.Need-cast-passes
-cast-passes c = search needs
-
-passes-requires-2 : tie.Need-passes-requires-2
-passes-requires-2 c κs = search needs
-
 returns-2 : tie.Need-returns-2
 unfolding tooLong fitting
 returns-2 c = rw (← (c .before .before .before .before .passes .ensures), c .before .before .before .if1 .left, ← (c .before .passes2 .ensures), c .if2 .taken)
-
-passes-requires-3 : tie.Need-passes-requires-3
-passes-requires-3 c κs = search needs
 
 returns-3 : tie.Need-returns-3
 unfolding tooLong fitting
@@ -39,13 +27,4 @@ returns-5 c = rw (← (c .before .before .before .before .before .passes .ensure
 pub fitting-spec : {M : Type 1} → statement M
 fitting-spec =
     tie.close
-    (tie.spec
-    passes-requires
-    returns
-    cast-passes
-    passes-requires-2
-    returns-2
-    passes-requires-3
-    returns-3
-    returns-4
-    returns-5)
+    (tie.spec (search needs) returns (search needs) (search needs) returns-2 (search needs) returns-3 returns-4 returns-5)

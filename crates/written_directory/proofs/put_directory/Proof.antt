@@ -15,36 +15,21 @@ put-wave-entries-requires c κs =
     let size = directory-none (a .pcm) (a .waves) (a .start) (c .before .if1 .taken) in
     (omega arith, omega arith, omega arith)
 
-same-length : tie.Need-same-length
-same-length c = search needs
-
 returns : tie.Need-returns
 returns c =
     let a = c .before .before .before .before .before .before .args in
     rw (directory-plain (a .pcm) (a .waves) (a .start) (c .before .before .before .before .if1 .taken)) (c .before .before .put-wave-entries .ensures)
-
-cast-put-entry : tie.Need-cast-put-entry
-cast-put-entry c = search needs
-
-cast-put-entry-2 : tie.Need-cast-put-entry-2
-cast-put-entry-2 c = search needs
 
 put-entry-requires : tie.Need-put-entry-requires
 put-entry-requires c κs =
     let a = c .before .before .before .args in
     omega (arith, directory-some (a .pcm) (a .waves) (a .start) (c .before .if1 .left))
 
-add-put-wave-entries : tie.Need-add-put-wave-entries
-add-put-wave-entries c = search needs
-
 put-wave-entries-requires-2 : tie.Need-put-wave-entries-requires-2
 put-wave-entries-requires-2 c κs =
     let a = c .before .before .before .before .before .before .before .args in
     let whole = directory-some (a .pcm) (a .waves) (a .start) (c .before .before .before .before .before .if1 .left) in
     (omega arith, omega arith, omega arith)
-
-same-length-2 : tie.Need-same-length-2
-same-length-2 c = search needs
 
 returns-2 : tie.Need-returns-2
 returns-2 c =
@@ -57,14 +42,4 @@ returns-2 c =
 pub put-directory-spec : {M : Type 1} → statement M
 put-directory-spec =
     tie.close
-    (tie.spec
-    put-wave-entries-requires
-    same-length
-    returns
-    cast-put-entry
-    cast-put-entry-2
-    put-entry-requires
-    add-put-wave-entries
-    put-wave-entries-requires-2
-    same-length-2
-    returns-2)
+    (tie.spec put-wave-entries-requires (search needs) returns (search needs) (search needs) put-entry-requires (search needs) put-wave-entries-requires-2 (search needs) returns-2)

@@ -21,12 +21,6 @@ loop-holds c =
     let a = c .before .args in
     (refl, refl, starts (waveEntries (a .id) (a .start) (a .count)) (a .at) (a .buffer .now) (rw (entries-size (a .id) (a .start) (a .count)) (omega arith)))
 
-cast-put-entry : tie.Need-cast-put-entry Inv-loop μ-loop
-cast-put-entry c = search needs
-
-cast-put-entry-2 : tie.Need-cast-put-entry-2 Inv-loop μ-loop
-cast-put-entry-2 c = search needs
-
 put-entry-requires : tie.Need-put-entry-requires Inv-loop μ-loop
 put-entry-requires c κs =
     let l = c .before .before .loop in
@@ -37,25 +31,10 @@ add-place c =
     let l = c .before .before .before .before .before .loop in
     omega (arith, l .inv .2 .fits, entries-size (l .wave) (l .offset) (l .left))
 
-add-wave : tie.Need-add-wave Inv-loop μ-loop
-add-wave c = search needs
-
-add-offset : tie.Need-add-offset Inv-loop μ-loop
-add-offset c = search needs
-
-sub-left : tie.Need-sub-left Inv-loop μ-loop
-sub-left c = search needs
-
-loop-less : tie.Need-loop-less Inv-loop μ-loop
-loop-less c = search needs
-
 loop-again : tie.Need-loop-again Inv-loop μ-loop
 loop-again c =
     let l = c .before .before .before .before .before .loop in
     (omega arith, omega arith, wrote (l .inv .2) (entryBytes (l .wave) 1 256 (l .offset)) (waveEntries (l .wave + 1) (l .offset + 256) (l .left - 1)) 16 (entries-next (l .wave) (l .offset) (l .left) (c .before .before .before .before .loop-test .taken)) (entry-size (l .wave) 1 256 (l .offset)) refl (c .before .before .put-entry .ensures))
-
-same-length : tie.Need-same-length Inv-loop μ-loop
-same-length c = search needs
 
 returns : tie.Need-returns Inv-loop μ-loop
 returns c =
@@ -66,18 +45,4 @@ returns c =
 pub put-wave-entries-spec : {M : Type 1} → statement M
 put-wave-entries-spec =
     tie.close
-    (tie.spec
-    Inv-loop
-    μ-loop
-    loop-holds
-    cast-put-entry
-    cast-put-entry-2
-    put-entry-requires
-    add-place
-    add-wave
-    add-offset
-    sub-left
-    loop-less
-    loop-again
-    same-length
-    returns)
+    (tie.spec Inv-loop μ-loop loop-holds (search needs) (search needs) put-entry-requires add-place (search needs) (search needs) (search needs) (search needs) loop-again (search needs) returns)

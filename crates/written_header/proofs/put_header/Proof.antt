@@ -10,20 +10,8 @@ use Rattle.written_items.proofs.Writing.{starts, wrote, ends}
 use Rattle.written_header.proofs.put_header.Statement.{statement}
 use Rattle.written_header.proofs.put_header.Tie as tie
 
-put-front-requires : tie.Need-put-front-requires
-put-front-requires c κs = search needs
-
-put-counts-requires : tie.Need-put-counts-requires
-put-counts-requires c κs = search needs
-
 cast-put-sizes : tie.Need-cast-put-sizes
 cast-put-sizes c = record { fits = c .before .before .before .before .before .before .before .before .before .before .before .pre .3 }
-
-put-sizes-requires : tie.Need-put-sizes-requires
-put-sizes-requires c κs = search needs
-
-same-length : tie.Need-same-length
-same-length c = search needs
 
 returns : tie.Need-returns
 returns c =
@@ -41,10 +29,4 @@ returns c =
 pub put-header-spec : {M : Type 1} → statement M
 put-header-spec =
     tie.close
-    (tie.spec
-    put-front-requires
-    put-counts-requires
-    cast-put-sizes
-    put-sizes-requires
-    same-length
-    returns)
+    (tie.spec (search needs) (search needs) cast-put-sizes (search needs) (search needs) returns)

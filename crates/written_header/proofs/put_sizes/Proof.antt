@@ -6,24 +6,6 @@ use Rattle.written_header.specs.Fields.{sizeFields}
 use Rattle.written_header.proofs.put_sizes.Statement.{statement}
 use Rattle.written_header.proofs.put_sizes.Tie as tie
 
-put-u32-requires : tie.Need-put-u32-requires
-put-u32-requires c κs = search needs
-
-put-u32-requires-2 : tie.Need-put-u32-requires-2
-put-u32-requires-2 c κs = search needs
-
-put-u16-requires : tie.Need-put-u16-requires
-put-u16-requires c κs = search needs
-
-put-u8-requires : tie.Need-put-u8-requires
-put-u8-requires c κs = search needs
-
-put-u8-requires-2 : tie.Need-put-u8-requires-2
-put-u8-requires-2 c κs = search needs
-
-same-length : tie.Need-same-length
-same-length c = search needs
-
 returns : tie.Need-returns
 returns c =
     let a = c .before .before .before .before .before .before .before .before .before .before .before .before .before .before .before .before .before .before .before .before .before .args in
@@ -33,11 +15,4 @@ returns c =
 pub put-sizes-spec : {M : Type 1} → statement M
 put-sizes-spec =
     tie.close
-    (tie.spec
-    put-u32-requires
-    put-u32-requires-2
-    put-u16-requires
-    put-u8-requires
-    put-u8-requires-2
-    same-length
-    returns)
+    (tie.spec (search needs) (search needs) (search needs) (search needs) (search needs) (search needs) returns)

@@ -9,15 +9,6 @@ use Rattle.answers.proofs.Cards.{getD-any}
 use Rattle.answers.proofs.card.card_at.Statement.{statement}
 use Rattle.answers.proofs.card.card_at.Tie as tie
 
-mul-card : tie.Need-mul-card
-mul-card c = search needs
-
-element-copy-out-card : tie.Need-element-copy-out-card
-element-copy-out-card c = search needs
-
-card-of-requires : tie.Need-card-of-requires
-card-of-requires c κs = search needs
-
 returns : tie.Need-returns
 returns c =
     let s = c .before .before .before in
@@ -29,4 +20,4 @@ returns-2 c = simp (le-ltb _ _ (c .if1 .left))
 
 pub card-at-spec : {M : Type 1} → statement M
 card-at-spec =
-    tie.close (tie.spec mul-card element-copy-out-card card-of-requires returns returns-2)
+    tie.close (tie.spec (search needs) (search needs) (search needs) returns returns-2)

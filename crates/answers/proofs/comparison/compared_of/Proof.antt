@@ -3,24 +3,6 @@ use borrow.Author.Needs.{needs}
 use Rattle.answers.proofs.comparison.compared_of.Statement.{statement}
 use Rattle.answers.proofs.comparison.compared_of.Tie as tie
 
-enum-told : tie.Need-enum-told
-enum-told c = search needs
-
-enum-told-2 : tie.Need-enum-told-2
-enum-told-2 c = search needs
-
-enum-known-comparison : tie.Need-enum-known-comparison
-enum-known-comparison c = search needs
-
-refused-requires : tie.Need-refused-requires
-refused-requires c κs = search needs
-
-enum-known-comparison-2 : tie.Need-enum-known-comparison-2
-enum-known-comparison-2 c = search needs
-
-refused-requires-2 : tie.Need-refused-requires-2
-refused-requires-2 c κs = search needs
-
 returns : tie.Need-returns
 returns c = simp (c .enum-told .given .1)
 
@@ -36,14 +18,4 @@ returns-4 c = simp (c .before .before .comparison2 .given .1, ← (c .refused2 .
 pub compared-of-spec : {M : Type 1} → statement M
 compared-of-spec =
     tie.close
-    (tie.spec
-    enum-told
-    enum-told-2
-    enum-known-comparison
-    refused-requires
-    enum-known-comparison-2
-    refused-requires-2
-    returns
-    returns-2
-    returns-3
-    returns-4)
+    (tie.spec (search needs) (search needs) (search needs) (search needs) (search needs) (search needs) returns returns-2 returns-3 returns-4)

@@ -4,11 +4,8 @@ use mathlib.Core.Path.{refl}
 use Rattle.answers.proofs.comparison.refused.Statement.{statement}
 use Rattle.answers.proofs.comparison.refused.Tie as tie
 
-number-requires : tie.Need-number-requires
-number-requires c κs = search needs
-
 returns : tie.Need-returns
 returns c = rw (c .number .ensures) refl
 
 pub refused-spec : {M : Type 1} → statement M
-refused-spec = tie.close (tie.spec number-requires returns)
+refused-spec = tie.close (tie.spec (search needs) returns)

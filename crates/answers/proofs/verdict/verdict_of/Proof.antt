@@ -3,18 +3,6 @@ use borrow.Author.Needs.{needs}
 use Rattle.answers.proofs.verdict.verdict_of.Statement.{statement}
 use Rattle.answers.proofs.verdict.verdict_of.Tie as tie
 
-enum-known-answer : tie.Need-enum-known-answer
-enum-known-answer c = search needs
-
-accepted-requires : tie.Need-accepted-requires
-accepted-requires c κs = search needs
-
-enum-known-answer-2 : tie.Need-enum-known-answer-2
-enum-known-answer-2 c = search needs
-
-number-requires : tie.Need-number-requires
-number-requires c κs = search needs
-
 returns : tie.Need-returns
 returns c = rw (c .accepted .ensures) (simp (c .before .before .answer .given .1))
 
@@ -24,10 +12,4 @@ returns-2 c = rw (c .number .ensures) (simp (c .before .before .answer2 .given .
 pub verdict-of-spec : {M : Type 1} → statement M
 verdict-of-spec =
     tie.close
-    (tie.spec
-    enum-known-answer
-    accepted-requires
-    enum-known-answer-2
-    number-requires
-    returns
-    returns-2)
+    (tie.spec (search needs) (search needs) (search needs) (search needs) returns returns-2)

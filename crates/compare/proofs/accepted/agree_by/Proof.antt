@@ -6,29 +6,17 @@ use Rattle.compare.specs.Accepted.{agreeBy}
 use Rattle.compare.proofs.accepted.agree_by.Statement.{statement}
 use Rattle.compare.proofs.accepted.agree_by.Tie as tie
 
-same-bool-requires : tie.Need-same-bool-requires
-same-bool-requires c κs = search needs
-
 returns : tie.Need-returns
 unfolding agreeBy
 returns c = rw (← (c .before .same-bool .ensures), not-true (c .before .same-bool .result) (c .if1 .taken))
-
-same-opening-requires : tie.Need-same-opening-requires
-same-opening-requires c κs = search needs
 
 returns-2 : tie.Need-returns-2
 unfolding agreeBy
 returns-2 c = rw (← (c .before .before .before .same-bool .ensures), not-false (c .before .before .before .same-bool .result) (c .before .before .if1 .left), ← (c .before .same-opening .ensures), not-true (c .before .same-opening .result) (c .if2 .taken))
 
-same-bytes-requires : tie.Need-same-bytes-requires
-same-bytes-requires c κs = search needs
-
 returns-3 : tie.Need-returns-3
 unfolding agreeBy
 returns-3 c = rw (← (c .before .before .before .before .before .same-bool .ensures), not-false (c .before .before .before .before .before .same-bool .result) (c .before .before .before .before .if1 .left), ← (c .before .before .before .same-opening .ensures), not-false (c .before .before .before .same-opening .result) (c .before .before .if2 .left), ← (c .before .same-bytes .ensures), not-true (c .before .same-bytes .result) (c .if3 .taken))
-
-frames-agree-requires : tie.Need-frames-agree-requires
-frames-agree-requires c κs = search needs
 
 returns-4 : tie.Need-returns-4
 unfolding agreeBy
@@ -37,12 +25,4 @@ returns-4 c = rw (← (c .before .before .before .before .before .before .same-b
 pub agree-by-spec : {M : Type 1} → statement M
 agree-by-spec =
     tie.close
-    (tie.spec
-    same-bool-requires
-    returns
-    same-opening-requires
-    returns-2
-    same-bytes-requires
-    returns-3
-    frames-agree-requires
-    returns-4)
+    (tie.spec (λ c κs. search needs) returns (λ c κs. search needs) returns-2 (λ c κs. search needs) returns-3 (λ c κs. search needs) returns-4)

@@ -10,18 +10,6 @@ returns : tie.Need-returns
 unfolding framesAgree
 returns c = rw (ne-eqb _ _ (c .if1 .taken))
 
-mul-start : tie.Need-mul-start
-mul-start c = search needs
-
-add-start : tie.Need-add-start
-add-start c = search needs
-
-cast-other-start : tie.Need-cast-other-start
-cast-other-start c = search needs
-
-same-frames-requires : tie.Need-same-frames-requires
-same-frames-requires c κs = search needs
-
 returns-2 : tie.Need-returns-2
 unfolding framesAgree
 returns-2 c = rw (eq-eqb _ _ (c .before .before .before .if1 .left)) (c .same-frames .ensures)
@@ -29,10 +17,4 @@ returns-2 c = rw (eq-eqb _ _ (c .before .before .before .if1 .left)) (c .same-fr
 pub frames-agree-spec : {M : Type 1} → statement M
 frames-agree-spec =
     tie.close
-    (tie.spec
-    returns
-    mul-start
-    add-start
-    cast-other-start
-    same-frames-requires
-    returns-2)
+    (tie.spec returns (search needs) (search needs) (search needs) (search needs) returns-2)

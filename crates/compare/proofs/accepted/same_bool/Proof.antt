@@ -8,12 +8,7 @@ use Rattle.compare.proofs.accepted.same_bool.Tie as tie
 returns : tie.Need-returns
 returns c = rw (c .if1 .taken) (beq-true (c .before .args .b))
 
-returns-2 : tie.Need-returns-2
-returns-2 c = search needs
-
 pub same-bool-spec : {M : Type 1} → statement M
 same-bool-spec =
     tie.close
-    (tie.spec
-    returns
-    returns-2)
+    (tie.spec returns (λ c. search needs))

@@ -9,19 +9,10 @@ use Rattle.compare.proofs.Answers.{version-other, version-found, versio
 use Rattle.compare.proofs.version.check_version.Statement.{statement}
 use Rattle.compare.proofs.version.check_version.Tie as tie
 
-check-file-requires : tie.Need-check-file-requires
-check-file-requires c κs = search needs
-
-enum-known-answer : tie.Need-enum-known-answer
-enum-known-answer c = search needs
-
 returns : tie.Need-returns
 returns c =
     let a = accepted-as (c .before .before .before .before .before .before .before .args .file .now) _ _ _ (c .before .before .before .before .before .check-file .ensures) (c .before .before .before .answer .given .1) in
     sym (version-other (c .before .before .before .before .before .before .before .args .version) (c .before .before .before .before .before .before .before .args .file .now) (a .stream) (a .reads) (λ e. c .if1 .taken (ap (λ (h : Header). h .version) (a .header-is) ∙ e)))
-
-enum-known-answer-2 : tie.Need-enum-known-answer-2
-enum-known-answer-2 c = search needs
 
 returns-2 : tie.Need-returns-2
 returns-2 c =
@@ -34,10 +25,4 @@ returns-3 c = sym (version-none (c .before .before .before .before .before .args
 pub check-version-spec : {M : Type 1} → statement M
 check-version-spec =
     tie.close
-    (tie.spec
-    check-file-requires
-    enum-known-answer
-    returns
-    enum-known-answer-2
-    returns-2
-    returns-3)
+    (tie.spec (search needs) (search needs) returns (search needs) returns-2 returns-3)

@@ -13,12 +13,6 @@ use Rattle.compare.proofs.Answers.{has, image-stays, master-short, othe
 use Rattle.compare.proofs.whole.compare_headers.Statement.{statement}
 use Rattle.compare.proofs.whole.compare_headers.Tie as tie
 
-image-size-requires : tie.Need-image-size-requires
-image-size-requires c κs = search needs
-
-too-short-requires : tie.Need-too-short-requires
-too-short-requires c κs = search needs
-
 returns : tie.Need-returns
 returns c =
     let s = c .before .before .before .before .before .before .before in
@@ -31,9 +25,6 @@ returns c =
     let o = has 2 other (a .other-header) (s .pre .1) in
     let short = master-short master other (length image) (length image′) (a .header) (a .other-header) m o (omega (arith, c .before .if1 .taken, c .before .before .image-size .ensures)) in
     (ap (λ (x : Refusal). refusedFile 1 (numberOf (x .rule)) (x .place)) (c .too-short .ensures) ∙ sym short, sym (image-stays _ (read master) image _ _ _ short), sym (image-stays _ (read other) image′ _ _ _ short))
-
-too-short-requires-2 : tie.Need-too-short-requires-2
-too-short-requires-2 c κs = search needs
 
 returns-2 : tie.Need-returns-2
 returns-2 c =
@@ -49,14 +40,8 @@ returns-2 c =
     let short = other-short master other (length image) (length image′) (a .header) (a .other-header) m o (omega (arith, c .before .before .if1 .left, size .ensures)) (omega (arith, c .before .if2 .taken, size .ensures)) in
     (ap (λ (x : Refusal). refusedFile 2 (numberOf (x .rule)) (x .place)) (c .too-short2 .ensures) ∙ sym short, sym (image-stays _ (read master) image _ _ _ short), sym (image-stays _ (read other) image′ _ _ _ short))
 
-slice-relend-prefix-compare-accepted : tie.Need-slice-relend-prefix-compare-accepted
-slice-relend-prefix-compare-accepted c = search needs
-
 slice-aggregate-compare-accepted : tie.Need-slice-aggregate-compare-accepted
 slice-aggregate-compare-accepted c = sym (length-take-le (c .before .before .before .image-size .result) (c .before .before .before .before .before .before .before .before .args .master-image .now) (c .before .before .if1 .left))
-
-slice-relend-prefix-compare-accepted-2 : tie.Need-slice-relend-prefix-compare-accepted-2
-slice-relend-prefix-compare-accepted-2 c = search needs
 
 slice-aggregate-compare-accepted-2 : tie.Need-slice-aggregate-compare-accepted-2
 slice-aggregate-compare-accepted-2 c = sym (length-take-le (c .before .before .before .before .image-size .result) (c .before .before .before .before .before .before .before .before .before .args .other-image .now) (c .before .before .if2 .left))
@@ -66,15 +51,6 @@ compare-accepted-requires c κs =
     let s = c .before .before .before .before .before .before .before .before .before in
     let a = s .args in
     fits (a .master .now) (a .other .now) (a .header) (a .other-header) (has 1 (a .master .now) (a .header) (s .pre .0)) (has 2 (a .other .now) (a .other-header) (s .pre .1))
-
-answer-requires : tie.Need-answer-requires
-answer-requires c κs = search needs
-
-same-length : tie.Need-same-length
-same-length c = search needs
-
-same-length-2 : tie.Need-same-length-2
-same-length-2 c = search needs
 
 returns-3 : tie.Need-returns-3
 returns-3 c =
@@ -96,18 +72,4 @@ returns-3 c =
 pub compare-headers-spec : {M : Type 1} → statement M
 compare-headers-spec =
     tie.close
-    (tie.spec
-    image-size-requires
-    too-short-requires
-    returns
-    too-short-requires-2
-    returns-2
-    slice-relend-prefix-compare-accepted
-    slice-aggregate-compare-accepted
-    slice-relend-prefix-compare-accepted-2
-    slice-aggregate-compare-accepted-2
-    compare-accepted-requires
-    answer-requires
-    same-length
-    same-length-2
-    returns-3)
+    (tie.spec (λ c κs. search needs) (λ c κs. search needs) returns (λ c κs. search needs) returns-2 (λ c. search needs) slice-aggregate-compare-accepted (λ c. search needs) slice-aggregate-compare-accepted-2 compare-accepted-requires (λ c κs. search needs) (λ c. search needs) (λ c. search needs) returns-3)

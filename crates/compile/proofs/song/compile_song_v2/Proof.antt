@@ -7,25 +7,10 @@ use Rattle.compile.proofs.Answers.{refuses, not-read}
 use Rattle.compile.proofs.song.compile_song_v2.Statement.{statement}
 use Rattle.compile.proofs.song.compile_song_v2.Tie as tie
 
-check-file-requires : tie.Need-check-file-requires
-check-file-requires c κs = search needs
-
-enum-known-answer : tie.Need-enum-known-answer
-enum-known-answer c = search needs
-
 repack-accepted-requires : tie.Need-repack-accepted-requires
 repack-accepted-requires c κs =
     let found = accepted-as (c .before .before .before .before .before .before .before .args .file .now) _ _ _ (c .before .before .before .before .check-file .ensures) (c .before .before .answer .given .1) in
     record { stream = found .stream; reads = found .reads; header-is = found .header-is }
-
-enum-known-answer-2 : tie.Need-enum-known-answer-2
-enum-known-answer-2 c = search needs
-
-same-length : tie.Need-same-length
-same-length c = search needs
-
-returns : tie.Need-returns
-returns c = search needs
 
 returns-2 : tie.Need-returns-2
 returns-2 c =
@@ -36,11 +21,4 @@ returns-2 c =
 pub compile-song-v2-spec : {M : Type 1} → statement M
 compile-song-v2-spec =
     tie.close
-    (tie.spec
-    check-file-requires
-    enum-known-answer
-    repack-accepted-requires
-    enum-known-answer-2
-    same-length
-    returns
-    returns-2)
+    (tie.spec (search needs) (λ c. search needs) repack-accepted-requires (λ c. search needs) (λ c. search needs) (λ c. search needs) returns-2)

@@ -9,12 +9,6 @@ use Rattle.repack_layout.proofs.Made.{pcm-few, total-is}
 use Rattle.compile.proofs.song.repack_measured.Statement.{statement}
 use Rattle.compile.proofs.song.repack_measured.Tie as tie
 
-cast-records : tie.Need-cast-records
-cast-records c = search needs
-
-cast-frames : tie.Need-cast-frames
-cast-frames c = search needs
-
 mul-start : tie.Need-mul-start
 mul-start c = omega (arith, here (c .before .before .before .before .pre) .opening-fits)
 
@@ -31,17 +25,11 @@ lay-out-requires c κs =
     let known = known-of (c .before .before .before .before .before .before .before .before .before .before .pre) (c .measure-frames .ensures) in
     (pcm-few known, omega (arith, known .opening-fits, known .small), known .measured .few, known .measured .small)
 
-refused-requires : tie.Need-refused-requires
-refused-requires c κs = search needs
-
 returns : tie.Need-returns
 returns c =
     let s = c .before .before .before .before .before .before .before .before .before .before .before .before .before .before in
     let total = total-is (known-of (s .pre) (c .before .before .before .before .measure-frames .ensures)) (c .before .before .before .lay-out .ensures) in
     refuses (s .args .file .now) (s .args .buffer .now) 23 0 (c .refused .result) (long-result (s .pre) _ (omega (arith, total, c .before .if1 .taken))) (c .refused .ensures)
-
-refused-requires-2 : tie.Need-refused-requires-2
-refused-requires-2 c κs = search needs
 
 returns-2 : tie.Need-returns-2
 returns-2 c =
@@ -53,9 +41,6 @@ write-master-requires : tie.Need-write-master-requires
 write-master-requires c κs =
     (known-of (c .before .before .before .before .before .before .before .before .before .before .before .before .before .before .before .before .before .before .before .pre) (c .before .before .before .before .before .before .before .before .before .measure-frames .ensures), c .before .before .before .before .before .before .before .before .lay-out .ensures, c .before .before .before .before .before .before .if1 .left, c .before .before .before .before .if2 .left)
 
-same-length : tie.Need-same-length
-same-length c = search needs
-
 returns-3 : tie.Need-returns-3
 returns-3 c =
     let s = c .before .before .before .before .before .before .before .before .before .before .before .before .before .before .before .before .before .before .before .before .before .before in
@@ -65,17 +50,4 @@ returns-3 c =
 pub repack-measured-spec : {M : Type 1} → statement M
 repack-measured-spec =
     tie.close
-    (tie.spec
-    cast-records
-    cast-frames
-    mul-start
-    add-start
-    measure-frames-requires
-    lay-out-requires
-    refused-requires
-    returns
-    refused-requires-2
-    returns-2
-    write-master-requires
-    same-length
-    returns-3)
+    (tie.spec (search needs) (search needs) mul-start add-start measure-frames-requires lay-out-requires (search needs) returns (search needs) returns-2 write-master-requires (search needs) returns-3)

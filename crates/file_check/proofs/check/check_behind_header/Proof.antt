@@ -10,24 +10,6 @@ use borrow.Author.Needs.{needs}
 use Rattle.file_check.proofs.check.check_behind_header.Statement.{statement}
 use Rattle.file_check.proofs.check.check_behind_header.Tie as tie
 
-parse-v4-cards-requires : tie.Need-parse-v4-cards-requires
-parse-v4-cards-requires c κs = search needs
-
-check-layout-requires : tie.Need-check-layout-requires
-check-layout-requires c κs = search needs
-
-enum-told : tie.Need-enum-told
-enum-told c = search needs
-
-check-behind-tables-requires : tie.Need-check-behind-tables-requires
-check-behind-tables-requires c κs = search needs
-
-enum-known-refusal : tie.Need-enum-known-refusal
-enum-known-refusal c = search needs
-
-refused-file-requires : tie.Need-refused-file-requires
-refused-file-requires c κs = search needs
-
 returns : tie.Need-returns
 returns c =
     let s = c .before .before .before .before .before .before .before in
@@ -47,12 +29,4 @@ returns-2 c =
 pub check-behind-header-spec : {M : Type 1} → statement M
 check-behind-header-spec =
     tie.close
-    (tie.spec
-    parse-v4-cards-requires
-    check-layout-requires
-    enum-told
-    check-behind-tables-requires
-    enum-known-refusal
-    refused-file-requires
-    returns
-    returns-2)
+    (tie.spec (search needs) (search needs) (search needs) (search needs) (search needs) (search needs) returns returns-2)

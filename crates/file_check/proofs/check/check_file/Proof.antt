@@ -6,20 +6,8 @@ use borrow.Author.Needs.{needs}
 use Rattle.file_check.proofs.check.check_file.Statement.{statement}
 use Rattle.file_check.proofs.check.check_file.Tie as tie
 
-read-header-requires : tie.Need-read-header-requires
-read-header-requires c κs = search needs
-
-enum-known-header : tie.Need-enum-known-header
-enum-known-header c = search needs
-
 check-behind-header-requires : tie.Need-check-behind-header-requires
 check-behind-header-requires c κs = sym (c .before .before .before .read-header .ensures) ∙ ap headerIn (c .before .header .given .1)
-
-enum-known-rule : tie.Need-enum-known-rule
-enum-known-rule c = search needs
-
-refused-file-requires : tie.Need-refused-file-requires
-refused-file-requires c κs = search needs
 
 returns : tie.Need-returns
 returns c = rw (read-found (c .before .before .before .before .before .before .args .file .now) _ (sym (c .before .before .before .before .read-header .ensures) ∙ ap headerIn (c .before .before .header .given .1))) (c .check-behind-header .ensures)
@@ -30,11 +18,4 @@ returns-2 c = rw (read-refused (c .before .before .before .before .before .befor
 pub check-file-spec : {M : Type 1} → statement M
 check-file-spec =
     tie.close
-    (tie.spec
-    read-header-requires
-    enum-known-header
-    check-behind-header-requires
-    enum-known-rule
-    refused-file-requires
-    returns
-    returns-2)
+    (tie.spec (search needs) (search needs) check-behind-header-requires (search needs) (search needs) returns returns-2)

@@ -3,11 +3,8 @@ use borrow.Author.Needs.{needs}
 use Rattle.file_check.proofs.check.refused_file.Statement.{statement}
 use Rattle.file_check.proofs.check.refused_file.Tie as tie
 
-no-cards-requires : tie.Need-no-cards-requires
-no-cards-requires c κs = search needs
-
 returns : tie.Need-returns
 returns c = rw (c .no-cards .ensures)
 
 pub refused-file-spec : {M : Type 1} → statement M
-refused-file-spec = tie.close (tie.spec no-cards-requires returns)
+refused-file-spec = tie.close (tie.spec (search needs) returns)

@@ -5,15 +5,9 @@ use Rattle.format.specs.Operation.{itemAt}
 use Rattle.operation.proofs.item.read_item.Statement.{statement}
 use Rattle.operation.proofs.item.read_item.Tie as tie
 
-read-record-requires : tie.Need-read-record-requires
-read-record-requires c κs = search needs
-
 returns : tie.Need-returns
 unfolding itemAt
 returns c = simp (eq-eqb _ _ (c .before .if1 .taken)) (c .read-record .ensures)
-
-read-operation-requires : tie.Need-read-operation-requires
-read-operation-requires c κs = search needs
 
 returns-2 : tie.Need-returns-2
 unfolding itemAt
@@ -21,4 +15,4 @@ returns-2 c = simp (ne-eqb _ _ (c .before .if1 .left)) (c .read-operation .ensur
 
 pub read-item-spec : {M : Type 1} → statement M
 read-item-spec =
-    tie.close (tie.spec read-record-requires returns read-operation-requires returns-2)
+    tie.close (tie.spec (search needs) returns (search needs) returns-2)

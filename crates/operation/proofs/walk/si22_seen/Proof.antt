@@ -3,14 +3,8 @@ use borrow.Author.Needs.{needs}
 use Rattle.operation.proofs.walk.si22_seen.Statement.{statement}
 use Rattle.operation.proofs.walk.si22_seen.Tie as tie
 
-returns : tie.Need-returns
-returns c = search needs
-
-target-number-requires : tie.Need-target-number-requires
-target-number-requires c κs = search needs
-
 returns-2 : tie.Need-returns-2
 returns-2 c = simp (c .before .if1 .left, c .target-number .ensures)
 
 pub si22-seen-spec : {M : Type 1} → statement M
-si22-seen-spec = tie.close (tie.spec returns target-number-requires returns-2)
+si22-seen-spec = tie.close (tie.spec (λ c. search needs) (search needs) returns-2)

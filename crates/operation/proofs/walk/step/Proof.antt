@@ -3,18 +3,6 @@ use borrow.Author.Needs.{needs}
 use Rattle.operation.proofs.walk.step.Statement.{statement}
 use Rattle.operation.proofs.walk.step.Tie as tie
 
-read-item-requires : tie.Need-read-item-requires
-read-item-requires c κs = search needs
-
-enum-known-operation : tie.Need-enum-known-operation
-enum-known-operation c = search needs
-
-si22-seen-requires : tie.Need-si22-seen-requires
-si22-seen-requires c κs = search needs
-
-enum-known-refusal : tie.Need-enum-known-refusal
-enum-known-refusal c = search needs
-
 returns : tie.Need-returns
 returns c =
     let found = c .before .before in
@@ -26,10 +14,4 @@ returns-2 c = simp (← (c .before .before .before .read-item .ensures), c .befo
 pub step-spec : {M : Type 1} → statement M
 step-spec =
     tie.close
-    (tie.spec
-    read-item-requires
-    enum-known-operation
-    si22-seen-requires
-    enum-known-refusal
-    returns
-    returns-2)
+    (tie.spec (search needs) (search needs) (search needs) (search needs) returns returns-2)

@@ -18,29 +18,14 @@ Inv-loop file state limit room progress waves₀ cursor₀ operations₀ writes�
 abbrev μ-loop : tie.MeasureT-loop
 μ-loop file state limit room progress waves₀ cursor₀ operations₀ writes₀ free₀ left₀ waves cursor operations writes free left = left
 
-operations-left-requires : tie.Need-operations-left-requires Inv-loop μ-loop
-operations-left-requires c κs = search needs
-
 loop-holds : tie.Need-loop-holds Inv-loop μ-loop
 loop-holds c = (omega arith, c .operations-left .ensures .1, rw (c .operations-left .ensures .0))
-
-placed-requires : tie.Need-placed-requires Inv-loop μ-loop
-placed-requires c κs = search needs
-
-answer-requires : tie.Need-answer-requires Inv-loop μ-loop
-answer-requires c κs = search needs
 
 returns : tie.Need-returns Inv-loop μ-loop
 returns c =
     let l = c .before .before .before .before in
     let a = l .before .before .before .before .args in
     (rw (l .loop .inv .2, c .answer .ensures, c .before .placed .ensures, c .before .before .if1 .taken, paced-full (a .state) (a .file .now) (a .limit) (l .loop .left)), rw (c .answer .ensures) (omega arith))
-
-start-requires : tie.Need-start-requires Inv-loop μ-loop
-start-requires c κs = search needs
-
-answer-requires-2 : tie.Need-answer-requires-2 Inv-loop μ-loop
-answer-requires-2 c κs = search needs
 
 returns-2 : tie.Need-returns-2 Inv-loop μ-loop
 returns-2 c =
@@ -50,21 +35,6 @@ returns-2 c =
     let p = placed (a .progress) (l .loop .cursor) (l .loop .operations) (l .loop .writes) (l .loop .waves) in
     (rw (l .loop .inv .2, paced-25 (a .state) (a .file .now) (a .limit) (l .loop .left) (l .loop .free) p (omega arith) (omega arith), ← (start .start .ensures .0), c .before .if2 .taken, c .answer2 .ensures), rw (c .answer2 .ensures) (omega arith))
 
-cast-if3 : tie.Need-cast-if3 Inv-loop μ-loop
-cast-if3 c = search needs
-
-cast-made : tie.Need-cast-made Inv-loop μ-loop
-cast-made c = search needs
-
-add-made : tie.Need-add-made Inv-loop μ-loop
-add-made c = search needs
-
-placed-requires-2 : tie.Need-placed-requires-2 Inv-loop μ-loop
-placed-requires-2 c κs = search needs
-
-answer-requires-3 : tie.Need-answer-requires-3 Inv-loop μ-loop
-answer-requires-3 c κs = search needs
-
 returns-3 : tie.Need-returns-3 Inv-loop μ-loop
 returns-3 c =
     let start = c .before .before .before .before .before in
@@ -72,18 +42,6 @@ returns-3 c =
     let a = l .before .before .before .before .args in
     let p = placed (a .progress) (l .loop .cursor) (l .loop .operations) (l .loop .writes) (l .loop .waves) in
     (rw (l .loop .inv .2, paced-25 (a .state) (a .file .now) (a .limit) (l .loop .left) (l .loop .free) p (omega arith) (omega arith), ← (start .start .ensures .0), c .before .before .before .before .if2 .left, lt-ltb _ _ (c .before .before .if3 .taken), c .answer3 .ensures, c .before .placed2 .ensures), rw (c .answer3 .ensures) (omega arith))
-
-cast-free : tie.Need-cast-free Inv-loop μ-loop
-cast-free c = search needs
-
-sub-free : tie.Need-sub-free Inv-loop μ-loop
-sub-free c = search needs
-
-add-operations : tie.Need-add-operations Inv-loop μ-loop
-add-operations c = search needs
-
-sub-left : tie.Need-sub-left Inv-loop μ-loop
-sub-left c = search needs
 
 loop-less : tie.Need-loop-less Inv-loop μ-loop
 loop-less c = omega arith
@@ -96,12 +54,6 @@ loop-again c =
     let p = placed (a .progress) (l .loop .cursor) (l .loop .operations) (l .loop .writes) (l .loop .waves) in
     (omega arith, omega arith, rw (l .loop .inv .2, paced-25 (a .state) (a .file .now) (a .limit) (l .loop .left) (l .loop .free) p (omega arith) (omega arith), ← (start .start .ensures .0), c .before .before .if2 .left, le-ltb _ _ (c .if3 .left)))
 
-placed-requires-3 : tie.Need-placed-requires-3 Inv-loop μ-loop
-placed-requires-3 c κs = search needs
-
-answer-requires-4 : tie.Need-answer-requires-4 Inv-loop μ-loop
-answer-requires-4 c κs = search needs
-
 returns-4 : tie.Need-returns-4 Inv-loop μ-loop
 returns-4 c =
     let l = c .before .before .before in
@@ -112,29 +64,4 @@ returns-4 c =
 pub pace-spec : {M : Type 1} → statement M
 pace-spec =
     tie.close
-    (tie.spec
-    Inv-loop
-    μ-loop
-    operations-left-requires
-    loop-holds
-    placed-requires
-    answer-requires
-    returns
-    start-requires
-    answer-requires-2
-    returns-2
-    cast-if3
-    cast-made
-    add-made
-    placed-requires-2
-    answer-requires-3
-    returns-3
-    cast-free
-    sub-free
-    add-operations
-    sub-left
-    loop-less
-    loop-again
-    placed-requires-3
-    answer-requires-4
-    returns-4)
+    (tie.spec Inv-loop μ-loop (search needs) loop-holds (search needs) (search needs) returns (search needs) (search needs) returns-2 (search needs) (search needs) (search needs) (search needs) (search needs) returns-3 (search needs) (search needs) (search needs) (search needs) loop-less loop-again (search needs) (search needs) returns-4)

@@ -3,15 +3,6 @@ use borrow.Author.Needs.{needs}
 use Rattle.pace.proofs.waves.count_of.Statement.{statement}
 use Rattle.pace.proofs.waves.count_of.Tie as tie
 
-enum-told : tie.Need-enum-told
-enum-told c = search needs
-
-enum-known-operation : tie.Need-enum-known-operation
-enum-known-operation c = search needs
-
-enum-known-operation-2 : tie.Need-enum-known-operation-2
-enum-known-operation-2 c = search needs
-
 returns : tie.Need-returns
 returns c = rw (c .enum-told .given .1)
 
@@ -24,10 +15,4 @@ returns-3 c = rw (c .before .operation2 .given .1)
 pub count-of-spec : {M : Type 1} → statement M
 count-of-spec =
     tie.close
-    (tie.spec
-    enum-told
-    enum-known-operation
-    enum-known-operation-2
-    returns
-    returns-2
-    returns-3)
+    (tie.spec (search needs) (search needs) (search needs) returns returns-2 returns-3)

@@ -7,24 +7,6 @@ use Rattle.format.specs.declared.pool.Pool.{Pool}
 use Rattle.pace.proofs.waves.waves_by.Statement.{statement}
 use Rattle.pace.proofs.waves.waves_by.Tie as tie
 
-enum-told : tie.Need-enum-told
-enum-told c = search needs
-
-enum-told-2 : tie.Need-enum-told-2
-enum-told-2 c = search needs
-
-enum-known-operation : tie.Need-enum-known-operation
-enum-known-operation c = search needs
-
-cast-read-pool : tie.Need-cast-read-pool
-cast-read-pool c = search needs
-
-read-pool-requires : tie.Need-read-pool-requires
-read-pool-requires c κs = search needs
-
-waves-with-requires : tie.Need-waves-with-requires
-waves-with-requires c κs = search needs
-
 returns : tie.Need-returns
 unfolding wavesBy
 returns c = rw (c .before .before .before .before .before .operation .given .1, eq-eqb _ _ (ap (λ (pool : Pool). pool .kind) (sym (c .before .before .before .read-pool .ensures)) ∙ c .before .if1 .taken)) (c .waves-with .ensures)
@@ -44,14 +26,4 @@ returns-4 c = rw (c .before .before .before .before .operation .given .1, ne-eqb
 pub waves-by-spec : {M : Type 1} → statement M
 waves-by-spec =
     tie.close
-    (tie.spec
-    enum-told
-    enum-told-2
-    enum-known-operation
-    cast-read-pool
-    read-pool-requires
-    waves-with-requires
-    returns
-    returns-2
-    returns-3
-    returns-4)
+    (tie.spec (search needs) (search needs) (search needs) (search needs) (search needs) (search needs) returns returns-2 returns-3 returns-4)

@@ -4,9 +4,6 @@ use borrow.Author.Tests.{eq-eqb, ne-eqb}
 use Rattle.pace.proofs.waves.waves_now.Statement.{statement}
 use Rattle.pace.proofs.waves.waves_now.Tie as tie
 
-waves-by-requires : tie.Need-waves-by-requires
-waves-by-requires c κs = search needs
-
 returns : tie.Need-returns
 returns c = rw (eq-eqb _ _ (c .before .if1 .taken)) (c .waves-by .ensures)
 
@@ -16,7 +13,4 @@ returns-2 c = rw (ne-eqb _ _ (c .if1 .left))
 pub waves-now-spec : {M : Type 1} → statement M
 waves-now-spec =
     tie.close
-    (tie.spec
-    waves-by-requires
-    returns
-    returns-2)
+    (tie.spec (search needs) returns returns-2)

@@ -7,31 +7,10 @@ use mathlib.Core.Bool.{true}
 use Rattle.pace.proofs.waves.waves_with.Statement.{statement}
 use Rattle.pace.proofs.waves.waves_with.Tie as tie
 
-mul-i : tie.Need-mul-i
-mul-i c = search needs
-
-add-i : tie.Need-add-i
-add-i c = search needs
-
-mul-after : tie.Need-mul-after
-mul-after c = search needs
-
-array-set-from-after : tie.Need-array-set-from-after
-array-set-from-after c = search needs
-
-returns : tie.Need-returns
-returns c = search needs
-
 returns-2 : tie.Need-returns-2
 returns-2 c = rw (set-out (c .before .args .waves) (c .before .args .target * 8 + c .before .args .address / 256) (record { copied = true; pool = c .before .args .id }) (omega arith))
 
 pub waves-with-spec : {M : Type 1} → statement M
 waves-with-spec =
     tie.close
-    (tie.spec
-    mul-i
-    add-i
-    mul-after
-    array-set-from-after
-    returns
-    returns-2)
+    (tie.spec (search needs) (search needs) (search needs) (search needs) (search needs) returns-2)

@@ -12,22 +12,10 @@ returns : tie.Need-returns
 unfolding planned
 returns c = rw (c .if1 .taken)
 
-foreign-requires : tie.Need-foreign-requires
-foreign-requires c κs = search needs
-
-refused-plan-requires : tie.Need-refused-plan-requires
-refused-plan-requires c κs = search needs
-
 returns-2 : tie.Need-returns-2
 returns-2 c =
     let a = c .before .before .before .before .before .before .before .args in
     planned-foreign (a .state) (a .file .now) (a .room) (c .before .before .foreign .result) _ (c .before .before .before .before .if1 .left) (ap (refuse 25 0) (c .before .before .foreign .ensures) ∙ foreign-is (a .state) (a .file .now)) (c .before .if2 .taken) (c .refused-plan .ensures)
-
-plan-part-requires : tie.Need-plan-part-requires
-plan-part-requires c κs = search needs
-
-told-requires : tie.Need-told-requires
-told-requires c κs = search needs
 
 returns-3 : tie.Need-returns-3
 returns-3 c =
@@ -37,11 +25,4 @@ returns-3 c =
 pub plan-call-spec : {M : Type 1} → statement M
 plan-call-spec =
     tie.close
-    (tie.spec
-    returns
-    foreign-requires
-    refused-plan-requires
-    returns-2
-    plan-part-requires
-    told-requires
-    returns-3)
+    (tie.spec returns (search needs) (search needs) returns-2 (search needs) (search needs) returns-3)

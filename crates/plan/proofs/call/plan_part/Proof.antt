@@ -6,33 +6,6 @@ use Rattle.plan.proofs.Begins.{goes-between, goes-opening, goes-frame, 
 use Rattle.plan.proofs.call.plan_part.Statement.{statement}
 use Rattle.plan.proofs.call.plan_part.Tie as tie
 
-part-of-requires : tie.Need-part-of-requires
-part-of-requires c κs = search needs
-
-enum-told : tie.Need-enum-told
-enum-told c = search needs
-
-plan-between-requires : tie.Need-plan-between-requires
-plan-between-requires c κs = search needs
-
-enum-told-2 : tie.Need-enum-told-2
-enum-told-2 c = search needs
-
-plan-opening-requires : tie.Need-plan-opening-requires
-plan-opening-requires c κs = search needs
-
-enum-told-3 : tie.Need-enum-told-3
-enum-told-3 c = search needs
-
-plan-frame-requires : tie.Need-plan-frame-requires
-plan-frame-requires c κs = search needs
-
-enum-told-4 : tie.Need-enum-told-4
-enum-told-4 c = search needs
-
-plan-closing-requires : tie.Need-plan-closing-requires
-plan-closing-requires c κs = search needs
-
 returns : tie.Need-returns
 returns c =
     let a = c .before .before .before .before .before .args in
@@ -56,17 +29,4 @@ returns-4 c =
 pub plan-part-spec : {M : Type 1} → statement M
 plan-part-spec =
     tie.close
-    (tie.spec
-    part-of-requires
-    enum-told
-    plan-between-requires
-    enum-told-2
-    plan-opening-requires
-    enum-told-3
-    plan-frame-requires
-    enum-told-4
-    plan-closing-requires
-    returns
-    returns-2
-    returns-3
-    returns-4)
+    (tie.spec (search needs) (search needs) (search needs) (search needs) (search needs) (search needs) (search needs) (search needs) (search needs) returns returns-2 returns-3 returns-4)

@@ -3,14 +3,8 @@ use borrow.Author.Needs.{needs}
 use Rattle.plan.proofs.call.told.Statement.{statement}
 use Rattle.plan.proofs.call.told.Tie as tie
 
-refused-plan-requires : tie.Need-refused-plan-requires
-refused-plan-requires c κs = search needs
-
 returns : tie.Need-returns
 returns c = rw (c .before .if1 .taken) (c .refused-plan .ensures)
-
-moved-requires : tie.Need-moved-requires
-moved-requires c κs = search needs
 
 returns-2 : tie.Need-returns-2
 returns-2 c = rw (c .before .before .if1 .left, c .moved .ensures)
@@ -18,8 +12,4 @@ returns-2 c = rw (c .before .before .if1 .left, c .moved .ensures)
 pub told-spec : {M : Type 1} → statement M
 told-spec =
     tie.close
-    (tie.spec
-    refused-plan-requires
-    returns
-    moved-requires
-    returns-2)
+    (tie.spec (search needs) returns (search needs) returns-2)

@@ -5,16 +5,10 @@ use mathlib.Core.Path.{refl}
 use Rattle.plan.proofs.frame.ended.Statement.{statement}
 use Rattle.plan.proofs.frame.ended.Tie as tie
 
-operations-left-requires : tie.Need-operations-left-requires
-operations-left-requires c κs = search needs
-
 returns : tie.Need-returns
 returns c =
     let left = c .before in
     (rw (← (left .operations-left .ensures .0), ne-eqb _ _ (c .if1 .taken)), refl)
-
-begun-requires : tie.Need-begun-requires
-begun-requires c κs = search needs
 
 returns-2 : tie.Need-returns-2
 returns-2 c =
@@ -24,8 +18,4 @@ returns-2 c =
 pub ended-spec : {M : Type 1} → statement M
 ended-spec =
     tie.close
-    (tie.spec
-    operations-left-requires
-    returns
-    begun-requires
-    returns-2)
+    (tie.spec (search needs) returns (search needs) returns-2)

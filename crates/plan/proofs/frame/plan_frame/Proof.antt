@@ -7,15 +7,6 @@ use Rattle.plan.specs.declared.taken.Taken.{Taken}
 use Rattle.plan.proofs.frame.plan_frame.Statement.{statement}
 use Rattle.plan.proofs.frame.plan_frame.Tie as tie
 
-pace-requires : tie.Need-pace-requires
-pace-requires c κs = search needs
-
-taken-by-requires : tie.Need-taken-by-requires
-taken-by-requires c κs = search needs
-
-ended-requires : tie.Need-ended-requires
-ended-requires c κs = search needs
-
 returns : tie.Need-returns
 returns c =
     let pace = c .before .before in
@@ -25,8 +16,4 @@ returns c =
 pub plan-frame-spec : {M : Type 1} → statement M
 plan-frame-spec =
     tie.close
-    (tie.spec
-    pace-requires
-    taken-by-requires
-    ended-requires
-    returns)
+    (tie.spec (search needs) (search needs) (search needs) returns)

@@ -11,21 +11,9 @@ use Rattle.plan.specs.declared.taken.Taken.{Taken}
 use Rattle.plan.proofs.opening.plan_opening.Statement.{statement}
 use Rattle.plan.proofs.opening.plan_opening.Tie as tie
 
-opening-limit-requires : tie.Need-opening-limit-requires
-opening-limit-requires c κs = search needs
-
-pace-requires : tie.Need-pace-requires
-pace-requires c κs = search needs
-
-taken-by-requires : tie.Need-taken-by-requires
-taken-by-requires c κs = search needs
-
 returns : tie.Need-returns
 unfolding planOpening openingLimit
 returns c = rw (told-bind, ← (c .before .before .before .opening-limit .ensures), ← (c .before .before .pace .ensures .0), c .before .taken-by .ensures, c .if1 .taken)
-
-operations-left-requires : tie.Need-operations-left-requires
-operations-left-requires c κs = search needs
 
 returns-2 : tie.Need-returns-2
 unfolding planOpening openingLimit
@@ -34,9 +22,6 @@ returns-2 c =
     let taken = left .before .before .before in
     let pace = taken .before in
     rw (told-bind, ← (pace .before .opening-limit .ensures), ← (pace .pace .ensures .0), taken .taken-by .ensures, left .before .before .if1 .left, ← (left .operations-left .ensures .0), ne-eqb _ _ (c .if2 .taken))
-
-begin-frame-requires : tie.Need-begin-frame-requires
-begin-frame-requires c κs = search needs
 
 behind-requires : tie.Need-behind-requires
 behind-requires c κs =
@@ -55,13 +40,4 @@ returns-3 c =
 pub plan-opening-spec : {M : Type 1} → statement M
 plan-opening-spec =
     tie.close
-    (tie.spec
-    opening-limit-requires
-    pace-requires
-    taken-by-requires
-    returns
-    operations-left-requires
-    returns-2
-    begin-frame-requires
-    behind-requires
-    returns-3)
+    (tie.spec (search needs) (search needs) (search needs) returns (search needs) returns-2 (search needs) behind-requires returns-3)

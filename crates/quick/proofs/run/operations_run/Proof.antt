@@ -44,12 +44,6 @@ returns-2 c =
     let none : eqb (sizeAt s (l .loop .at)) 0 ≡ true = rw (lt-ltb (s .args .end) (l .loop .at + 16) (omega arith)) in
     rw (l .loop .inv, run-stops (sizeAt s) (hasSi22 (s .args .file .now)) (l .loop .left) (l .loop .at) (l .loop .si22) (c .before .before .loop-test .taken) none)
 
-window-requires : tie.Need-window-requires Inv-loop μ-loop
-window-requires c κs = search needs
-
-quick-operation-requires : tie.Need-quick-operation-requires Inv-loop μ-loop
-quick-operation-requires c κs = search needs
-
 -- what the quick test says is the size
 sized : (q : tie.After-quick-operation Inv-loop μ-loop) → sizeAt (q .before .before .before .before .before .before .before) (q .before .before .before .before .before .loop .at) ≡ q .quick-operation .result
 sized q =
@@ -65,24 +59,12 @@ returns-3 c =
     let s = l .before .before in
     rw (l .loop .inv, run-stops (sizeAt s) (hasSi22 (s .args .file .now)) (l .loop .left) (l .loop .at) (l .loop .si22) (q .before .before .before .before .loop-test .taken) (rw (sized q) (eq-eqb _ _ (c .if3 .taken))))
 
-byte-at-requires : tie.Need-byte-at-requires Inv-loop μ-loop
-byte-at-requires c κs = search needs
-
-either-requires : tie.Need-either-requires Inv-loop μ-loop
-either-requires c κs = search needs
-
 add-at : tie.Need-add-at Inv-loop μ-loop
 add-at c =
     let q = c .before .before .before in
     let l = q .before .before .before .before .before in
     let a = l .before .before .args in
     omega (arith, sized q, operation-small (a .width) (a .file .now) (a .pools) (a .directory) (a .limits .now) (a .starts .now) (a .ends .now) (a .kinds .now) (a .end) (l .loop .at) (omega arith))
-
-sub-left : tie.Need-sub-left Inv-loop μ-loop
-sub-left c = search needs
-
-loop-less : tie.Need-loop-less Inv-loop μ-loop
-loop-less c = search needs
 
 loop-again : tie.Need-loop-again Inv-loop μ-loop
 loop-again c =
@@ -105,19 +87,4 @@ returns-4 c =
 pub operations-run-spec : {M : Type 1} → statement M
 operations-run-spec =
     tie.close
-    (tie.spec
-    Inv-loop
-    μ-loop
-    loop-holds
-    returns
-    returns-2
-    window-requires
-    quick-operation-requires
-    returns-3
-    byte-at-requires
-    either-requires
-    add-at
-    sub-left
-    loop-less
-    loop-again
-    returns-4)
+    (tie.spec Inv-loop μ-loop loop-holds returns returns-2 (search needs) (search needs) returns-3 (search needs) (search needs) add-at (search needs) (search needs) loop-again returns-4)

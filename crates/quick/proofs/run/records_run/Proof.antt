@@ -20,9 +20,6 @@ abbrev μ-loop : tie.MeasureT-loop
 loop-holds : tie.Need-loop-holds Inv-loop μ-loop
 loop-holds c = refl
 
-quick-record-requires : tie.Need-quick-record-requires Inv-loop μ-loop
-quick-record-requires c κs = search needs
-
 returns : tie.Need-returns Inv-loop μ-loop
 returns c =
     let l = c .before .before .before in
@@ -34,12 +31,6 @@ add-at c =
     let l = c .before .before .before in
     let a = l .before .before .args in
     omega (arith, c .before .quick-record .ensures, record-whole (a .file .now) (a .limit) (l .loop .at) (rw (c .before .quick-record .ensures) at (ne-eqb _ _ (c .if1 .left))))
-
-sub-left : tie.Need-sub-left Inv-loop μ-loop
-sub-left c = search needs
-
-loop-less : tie.Need-loop-less Inv-loop μ-loop
-loop-less c = search needs
 
 loop-again : tie.Need-loop-again Inv-loop μ-loop
 loop-again c =
@@ -57,14 +48,4 @@ returns-2 c =
 pub records-run-spec : {M : Type 1} → statement M
 records-run-spec =
     tie.close
-    (tie.spec
-    Inv-loop
-    μ-loop
-    loop-holds
-    quick-record-requires
-    returns
-    add-at
-    sub-left
-    loop-less
-    loop-again
-    returns-2)
+    (tie.spec Inv-loop μ-loop loop-holds (search needs) returns add-at (search needs) (search needs) loop-again returns-2)

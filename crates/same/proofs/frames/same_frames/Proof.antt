@@ -23,33 +23,6 @@ abbrev μ-loop : tie.MeasureT-loop
 loop-holds : tie.Need-loop-holds Inv-loop μ-loop
 loop-holds c = (omega arith, omega arith, refl)
 
-read-u16-requires : tie.Need-read-u16-requires Inv-loop μ-loop
-read-u16-requires c κs = search needs
-
-read-u16-requires-2 : tie.Need-read-u16-requires-2 Inv-loop μ-loop
-read-u16-requires-2 c κs = search needs
-
-add-same-part : tie.Need-add-same-part Inv-loop μ-loop
-add-same-part c = search needs
-
-cast-same-part : tie.Need-cast-same-part Inv-loop μ-loop
-cast-same-part c = search needs
-
-add-same-part-2 : tie.Need-add-same-part-2 Inv-loop μ-loop
-add-same-part-2 c = search needs
-
-cast-same-part-2 : tie.Need-cast-same-part-2 Inv-loop μ-loop
-cast-same-part-2 c = search needs
-
-same-part-requires : tie.Need-same-part-requires Inv-loop μ-loop
-same-part-requires c κs = search needs
-
-enum-known-next : tie.Need-enum-known-next Inv-loop μ-loop
-enum-known-next c = search needs
-
-enum-told : tie.Need-enum-told Inv-loop μ-loop
-enum-told c = search needs
-
 returns : tie.Need-returns Inv-loop μ-loop
 returns c =
     let n = c .before .before .before in
@@ -58,24 +31,6 @@ returns c =
     let a = m .before .before .before .before .before .args in
     let differs = part-differs true (a .master .now) (a .other .now) (a .directory) (m .read-u16 .result) (l .at + 2) (n .read-u162 .result) (l .from + 2) (sym (c .before .before .same-part .ensures) ∙ c .enum-told .given .1) in
     rw (l .inv .2, frames-step (a .master .now) (a .other .now) (a .directory) (l .left) (l .at) (l .from) (m .before .loop-test .taken), ← (m .read-u16 .ensures), ← (n .read-u162 .ensures), differs)
-
-cast-at : tie.Need-cast-at Inv-loop μ-loop
-cast-at c = search needs
-
-mul-at : tie.Need-mul-at Inv-loop μ-loop
-mul-at c = search needs
-
-add-at : tie.Need-add-at Inv-loop μ-loop
-add-at c = search needs
-
-add-at-2 : tie.Need-add-at-2 Inv-loop μ-loop
-add-at-2 c = search needs
-
-sub-left : tie.Need-sub-left Inv-loop μ-loop
-sub-left c = search needs
-
-loop-less : tie.Need-loop-less Inv-loop μ-loop
-loop-less c = search needs
 
 loop-again : tie.Need-loop-again Inv-loop μ-loop
 loop-again c =
@@ -97,25 +52,4 @@ returns-2 c =
 pub same-frames-spec : {M : Type 1} → statement M
 same-frames-spec =
     tie.close
-    (tie.spec
-    Inv-loop
-    μ-loop
-    loop-holds
-    read-u16-requires
-    read-u16-requires-2
-    add-same-part
-    cast-same-part
-    add-same-part-2
-    cast-same-part-2
-    same-part-requires
-    enum-known-next
-    enum-told
-    returns
-    cast-at
-    mul-at
-    add-at
-    add-at-2
-    sub-left
-    loop-less
-    loop-again
-    returns-2)
+    (tie.spec Inv-loop μ-loop loop-holds (λ c κs. search needs) (λ c κs. search needs) (λ c. search needs) (λ c. search needs) (λ c. search needs) (λ c. search needs) (λ c κs. search needs) (λ c. search needs) (λ c. search needs) returns (λ c. search needs) (λ c. search needs) (λ c. search needs) (λ c. search needs) (λ c. search needs) (λ c. search needs) loop-again returns-2)

@@ -6,15 +6,6 @@ use Rattle.same.proofs.Match.{part-same, part-differs}
 use Rattle.same.proofs.part.same_opening.Statement.{statement}
 use Rattle.same.proofs.part.same_opening.Tie as tie
 
-same-part-requires : tie.Need-same-part-requires
-same-part-requires c κs = search needs
-
-enum-told : tie.Need-enum-told
-enum-told c = search needs
-
-enum-told-2 : tie.Need-enum-told-2
-enum-told-2 c = search needs
-
 returns : tie.Need-returns
 returns c =
     let a = c .before .before .before .before .before .args in
@@ -26,4 +17,4 @@ returns-2 c =
     sym (part-differs false (a .master .now) (a .other .now) (a .directory) (a .records) 20 (a .operations) (a .«other-start») (sym (c .before .before .same-part .ensures) ∙ c .enum-told2 .given .1))
 
 pub same-opening-spec : {M : Type 1} → statement M
-same-opening-spec = tie.close (tie.spec same-part-requires enum-told enum-told-2 returns returns-2)
+same-opening-spec = tie.close (tie.spec (λ c κs. search needs) (λ c. search needs) (λ c. search needs) returns returns-2)

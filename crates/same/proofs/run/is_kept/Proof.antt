@@ -3,11 +3,8 @@ use borrow.Author.Needs.{needs}
 use Rattle.same.proofs.run.is_kept.Statement.{statement}
 use Rattle.same.proofs.run.is_kept.Tie as tie
 
-returns : tie.Need-returns
-returns c = search needs
-
 returns-2 : tie.Need-returns-2
 returns-2 c = simp (c .if1 .left)
 
 pub is-kept-spec : {M : Type 1} → statement M
-is-kept-spec = tie.close (tie.spec returns returns-2)
+is-kept-spec = tie.close (tie.spec (λ c. search needs) returns-2)

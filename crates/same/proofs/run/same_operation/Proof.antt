@@ -5,12 +5,6 @@ use Rattle.same.specs.Match.{matchedOperation}
 use Rattle.same.proofs.run.same_operation.Statement.{statement}
 use Rattle.same.proofs.run.same_operation.Tie as tie
 
-is-kept-requires : tie.Need-is-kept-requires
-is-kept-requires c κs = search needs
-
-same-segment-requires : tie.Need-same-segment-requires
-same-segment-requires c κs = search needs
-
 returns : tie.Need-returns
 unfolding matchedOperation
 returns c = rw (← (c .before .before .is-kept .ensures), c .before .if1 .taken) (c .same-segment .ensures)
@@ -22,8 +16,4 @@ returns-2 c = rw (← (c .before .is-kept .ensures), c .if1 .left)
 pub same-operation-spec : {M : Type 1} → statement M
 same-operation-spec =
     tie.close
-    (tie.spec
-    is-kept-requires
-    same-segment-requires
-    returns
-    returns-2)
+    (tie.spec (λ c κs. search needs) (λ c κs. search needs) returns returns-2)

@@ -22,12 +22,6 @@ abbrev μ-loop : tie.MeasureT-loop
 μ-loop master start records all other segment at₀ left₀ count₀ address₀ source₀ step at left count address source =
     left
 
-cast-address : tie.Need-cast-address Inv-loop μ-loop
-cast-address c = search needs
-
-step-of-requires : tie.Need-step-of-requires Inv-loop μ-loop
-step-of-requires c κs = search needs
-
 loop-holds : tie.Need-loop-holds Inv-loop μ-loop
 loop-holds c = (omega arith, omega arith, omega arith, refl)
 
@@ -37,35 +31,8 @@ returns c =
     let a = c .before .before .before .before .before .before .before .args in
     rw (l .inv .3, c .if1 .taken) (sym (matched-short (a .all) (a .master .now) (a .other .now) (l .at) (a .segment .target) (l .address) (l .source) (stepOf (a .segment .copied)) (l .count) (c .before .loop-test .taken)))
 
-byte-at-requires : tie.Need-byte-at-requires Inv-loop μ-loop
-byte-at-requires c κs = search needs
-
-is-kept-requires : tie.Need-is-kept-requires Inv-loop μ-loop
-is-kept-requires c κs = search needs
-
-byte-at-requires-2 : tie.Need-byte-at-requires-2 Inv-loop μ-loop
-byte-at-requires-2 c κs = search needs
-
-same-record-requires : tie.Need-same-record-requires Inv-loop μ-loop
-same-record-requires c κs = search needs
-
-sub-count : tie.Need-sub-count Inv-loop μ-loop
-sub-count c = search needs
-
-add-address : tie.Need-add-address Inv-loop μ-loop
-add-address c = search needs
-
 add-source : tie.Need-add-source Inv-loop μ-loop
 add-source c = omega (arith, c .before .before .before .before .before .before .before .before .before .step-of .ensures .1)
-
-add-at : tie.Need-add-at Inv-loop μ-loop
-add-at c = search needs
-
-sub-left : tie.Need-sub-left Inv-loop μ-loop
-sub-left c = search needs
-
-loop-less : tie.Need-loop-less Inv-loop μ-loop
-loop-less c = search needs
 
 loop-again : tie.Need-loop-again Inv-loop μ-loop
 loop-again c =
@@ -87,15 +54,6 @@ returns-2 c =
     let same = ap (λ (v : ℕ). sameWrite (recordWrite (a .master .now) (l .at)) (write (a .segment .target) (l .address) v)) (sym (c .before .before .byte-at2 .ensures)) ∙ sym (c .before .same-record .ensures) ∙ c .if3 .left in
     sym (l .inv .3 ∙ matched-differs (a .all) (a .master .now) (a .other .now) (l .left) (l .at) (a .segment .target) (l .address) (l .source) (stepOf (a .segment .copied)) (l .count) (omega arith) some kept same)
 
-add-at-2 : tie.Need-add-at-2 Inv-loop μ-loop
-add-at-2 c = search needs
-
-sub-left-2 : tie.Need-sub-left-2 Inv-loop μ-loop
-sub-left-2 c = search needs
-
-loop-less-2 : tie.Need-loop-less-2 Inv-loop μ-loop
-loop-less-2 c = search needs
-
 loop-again-2 : tie.Need-loop-again-2 Inv-loop μ-loop
 loop-again-2 c =
     let l = c .before .before .before .before .before .loop in
@@ -113,27 +71,4 @@ returns-3 c =
 pub same-segment-spec : {M : Type 1} → statement M
 same-segment-spec =
     tie.close
-    (tie.spec
-    Inv-loop
-    μ-loop
-    cast-address
-    step-of-requires
-    loop-holds
-    returns
-    byte-at-requires
-    is-kept-requires
-    byte-at-requires-2
-    same-record-requires
-    sub-count
-    add-address
-    add-source
-    add-at
-    sub-left
-    loop-less
-    loop-again
-    returns-2
-    add-at-2
-    sub-left-2
-    loop-less-2
-    loop-again-2
-    returns-3)
+    (tie.spec Inv-loop μ-loop (λ c. search needs) (λ c κs. search needs) loop-holds returns (λ c κs. search needs) (λ c κs. search needs) (λ c κs. search needs) (λ c κs. search needs) (λ c. search needs) (λ c. search needs) add-source (λ c. search needs) (λ c. search needs) (λ c. search needs) loop-again returns-2 (λ c. search needs) (λ c. search needs) (λ c. search needs) loop-again-2 returns-3)

@@ -8,29 +8,11 @@ use borrow.Author.Needs.{needs}
 use Rattle.segments.proofs.decode.last_span.Statement.{statement}
 use Rattle.segments.proofs.decode.last_span.Tie as tie
 
-byte-at-requires : tie.Need-byte-at-requires
-byte-at-requires c κs = search needs
-
-cast-opcode : tie.Need-cast-opcode
-cast-opcode c = search needs
-
-no-span-requires : tie.Need-no-span-requires
-no-span-requires c κs = search needs
-
 returns : tie.Need-returns
 returns c =
     let o = c .before .before in
     let a = o .before .before .args in
     rw (c .no-span .ensures) (sym (no-opcode (a .file .now) (a .directory) (a .at) (a .width) (rw (← (o .byte-at .ensures)) (c .before .if1 .taken))))
-
-operation-size-requires : tie.Need-operation-size-requires
-operation-size-requires c κs = search needs
-
-passes-requires : tie.Need-passes-requires
-passes-requires c κs = search needs
-
-no-span-requires-2 : tie.Need-no-span-requires-2
-no-span-requires-2 c κs = search needs
 
 returns-2 : tie.Need-returns-2
 returns-2 c =
@@ -53,9 +35,6 @@ add-span-of c =
     let a = s .before .before .before .before .args in
     omega (arith, inside _ (length (a .file .now)) (a .at) (s .operation-size .result) (e .before .passes .ensures) (e .if2 .left))
 
-span-of-requires : tie.Need-span-of-requires
-span-of-requires c κs = search needs
-
 returns-3 : tie.Need-returns-3
 returns-3 c =
     let e = c .before .before in
@@ -67,16 +46,4 @@ returns-3 c =
 pub last-span-spec : {M : Type 1} → statement M
 last-span-spec =
     tie.close
-    (tie.spec
-    byte-at-requires
-    cast-opcode
-    no-span-requires
-    returns
-    operation-size-requires
-    passes-requires
-    no-span-requires-2
-    returns-2
-    read-fields-requires
-    add-span-of
-    span-of-requires
-    returns-3)
+    (tie.spec (search needs) (search needs) (search needs) returns (search needs) (search needs) (search needs) returns-2 read-fields-requires add-span-of (search needs) returns-3)

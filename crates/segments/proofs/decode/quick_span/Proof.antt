@@ -6,18 +6,6 @@ use borrow.Author.Needs.{needs}
 use Rattle.segments.proofs.decode.quick_span.Statement.{statement}
 use Rattle.segments.proofs.decode.quick_span.Tie as tie
 
-window-requires : tie.Need-window-requires
-window-requires c κs = search needs
-
-byte-at-requires : tie.Need-byte-at-requires
-byte-at-requires c κs = search needs
-
-cast-opcode : tie.Need-cast-opcode
-cast-opcode c = search needs
-
-value-in-requires : tie.Need-value-in-requires
-value-in-requires c κs = search needs
-
 returns : tie.Need-returns
 returns c =
     let o = c .before .before in
@@ -26,9 +14,6 @@ returns c =
     let is = opcode-is (a .file .now) _ (a .at) _ (o .byte-at .ensures) (w .window .ensures) in
     rw (c .value-in .ensures, w .window .ensures) (value-read (a .file .now) (a .directory) (a .at) (a .width) (omega arith) (omega arith) (omega arith) (o .byte-at .result) is (c .before .if1 .taken))
 
-copy-in-requires : tie.Need-copy-in-requires
-copy-in-requires c κs = search needs
-
 returns-2 : tie.Need-returns-2
 returns-2 c =
     let o = c .before .before .before in
@@ -36,9 +21,6 @@ returns-2 c =
     let a = w .before .before .args in
     let is = opcode-is (a .file .now) _ (a .at) _ (o .byte-at .ensures) (w .window .ensures) in
     rw (c .copy-in .ensures, w .window .ensures) (copy-read (a .file .now) (a .directory) (a .at) (a .width) (omega arith) (omega arith) (omega arith) (is ∙ c .before .if2 .taken))
-
-no-span-requires : tie.Need-no-span-requires
-no-span-requires c κs = search needs
 
 returns-3 : tie.Need-returns-3
 returns-3 c =
@@ -51,13 +33,4 @@ returns-3 c =
 pub quick-span-spec : {M : Type 1} → statement M
 quick-span-spec =
     tie.close
-    (tie.spec
-    window-requires
-    byte-at-requires
-    cast-opcode
-    value-in-requires
-    returns
-    copy-in-requires
-    returns-2
-    no-span-requires
-    returns-3)
+    (tie.spec (search needs) (search needs) (search needs) (search needs) returns (search needs) returns-2 (search needs) returns-3)

@@ -8,23 +8,11 @@ use borrow.Author.Needs.{needs}
 use Rattle.segments.proofs.decode.read_span.Statement.{statement}
 use Rattle.segments.proofs.decode.read_span.Tie as tie
 
-record-span-requires : tie.Need-record-span-requires
-record-span-requires c κs = search needs
-
 returns : tie.Need-returns
 unfolding decoded
 returns c =
     let a = c .before .before .before .args in
     rw (c .record-span .ensures, eq-eqb _ _ (c .before .if1 .taken)) (record-read (a .file .now) (a .directory) (a .at))
-
-address-width-requires : tie.Need-address-width-requires
-address-width-requires c κs = search needs
-
-passes-requires : tie.Need-passes-requires
-passes-requires c κs = search needs
-
-last-span-requires : tie.Need-last-span-requires
-last-span-requires c κs = search needs
 
 returns-2 : tie.Need-returns-2
 unfolding decoded
@@ -47,12 +35,4 @@ returns-3 c =
 pub read-span-spec : {M : Type 1} → statement M
 read-span-spec =
     tie.close
-    (tie.spec
-    record-span-requires
-    returns
-    address-width-requires
-    passes-requires
-    last-span-requires
-    returns-2
-    quick-span-requires
-    returns-3)
+    (tie.spec (search needs) returns (search needs) (search needs) (search needs) returns-2 quick-span-requires returns-3)

@@ -5,12 +5,6 @@ use borrow.Author.Needs.{needs}
 use Rattle.segments.proofs.decode.record_span.Statement.{statement}
 use Rattle.segments.proofs.decode.record_span.Tie as tie
 
-passes-requires : tie.Need-passes-requires
-passes-requires c κs = search needs
-
-no-span-requires : tie.Need-no-span-requires
-no-span-requires c κs = search needs
-
 returns : tie.Need-returns
 returns c = simp (← (c .before .before .passes .ensures), c .before .if1 .taken, ← (c .no-span .ensures))
 
@@ -25,4 +19,4 @@ returns-2 c = simp (← (c .before .before .passes .ensures), c .before .if1 .le
 
 pub record-span-spec : {M : Type 1} → statement M
 record-span-spec =
-    tie.close (tie.spec passes-requires no-span-requires returns record-in-requires returns-2)
+    tie.close (tie.spec (search needs) (search needs) returns record-in-requires returns-2)

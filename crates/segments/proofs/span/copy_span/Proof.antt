@@ -3,11 +3,8 @@ use borrow.Author.Needs.{needs}
 use Rattle.segments.proofs.span.copy_span.Statement.{statement}
 use Rattle.segments.proofs.span.copy_span.Tie as tie
 
-pool-offset-requires : tie.Need-pool-offset-requires
-pool-offset-requires c κs = search needs
-
 returns : tie.Need-returns
 returns c = simp (← (c .pool-offset .ensures))
 
 pub copy-span-spec : {M : Type 1} → statement M
-copy-span-spec = tie.close (tie.spec pool-offset-requires returns)
+copy-span-spec = tie.close (tie.spec (search needs) returns)

@@ -4,17 +4,11 @@ use borrow.Author.Needs.{needs}
 use Rattle.segments.proofs.turn.behind.Statement.{statement}
 use Rattle.segments.proofs.turn.behind.Tie as tie
 
-stopped-requires : tie.Need-stopped-requires
-stopped-requires c κs = search needs
-
 returns : tie.Need-returns
 returns c = simp (le-leb _ _ (c .before .if1 .taken), ← (c .stopped .ensures))
-
-onward-requires : tie.Need-onward-requires
-onward-requires c κs = search needs
 
 returns-2 : tie.Need-returns-2
 returns-2 c = simp (lt-leb _ _ (c .before .if1 .left), ← (c .onward .ensures))
 
 pub behind-spec : {M : Type 1} → statement M
-behind-spec = tie.close (tie.spec stopped-requires returns onward-requires returns-2)
+behind-spec = tie.close (tie.spec (search needs) returns (search needs) returns-2)

@@ -5,21 +5,9 @@ use Rattle.segments.specs.Turn.{closingTurn}
 use Rattle.segments.proofs.turn.closing_turn.Statement.{statement}
 use Rattle.segments.proofs.turn.closing_turn.Tie as tie
 
-closing-segment-requires : tie.Need-closing-segment-requires
-closing-segment-requires c κs = search needs
-
-less-requires : tie.Need-less-requires
-less-requires c κs = search needs
-
-stopped-requires : tie.Need-stopped-requires
-stopped-requires c κs = search needs
-
 returns : tie.Need-returns
 unfolding closingTurn
 returns c = simp (← (c .before .before .before .before .closing-segment .ensures), ← (c .before .before .before .less .ensures), le-leb _ _ (c .before .if1 .taken), ← (c .stopped .ensures))
-
-onward-requires : tie.Need-onward-requires
-onward-requires c κs = search needs
 
 returns-2 : tie.Need-returns-2
 unfolding closingTurn
@@ -28,10 +16,4 @@ returns-2 c = simp (← (c .before .before .before .before .closing-segment .ens
 pub closing-turn-spec : {M : Type 1} → statement M
 closing-turn-spec =
     tie.close
-    (tie.spec
-    closing-segment-requires
-    less-requires
-    stopped-requires
-    returns
-    onward-requires
-    returns-2)
+    (tie.spec (search needs) (search needs) (search needs) returns (search needs) returns-2)

@@ -13,15 +13,9 @@ returns-2 : tie.Need-returns-2
 unfolding ended
 returns-2 c = simp (c .before .before .if1 .left, lt-ltb _ _ (c .if2 .taken))
 
-cast-result : tie.Need-cast-result
-cast-result c = search needs
-
-add-result : tie.Need-add-result
-add-result c = search needs
-
 returns-3 : tie.Need-returns-3
 unfolding ended
 returns-3 c = simp (c .before .before .before .if1 .left, le-ltb _ _ (c .before .if2 .left))
 
 pub ended-spec : {M : Type 1} → statement M
-ended-spec = tie.close (tie.spec returns returns-2 cast-result add-result returns-3)
+ended-spec = tie.close (tie.spec returns returns-2 (search needs) (search needs) returns-3)

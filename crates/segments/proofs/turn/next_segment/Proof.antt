@@ -8,18 +8,9 @@ use borrow.Author.Needs.{needs}
 use Rattle.segments.proofs.turn.next_segment.Statement.{statement}
 use Rattle.segments.proofs.turn.next_segment.Tie as tie
 
-closing-turn-requires : tie.Need-closing-turn-requires
-closing-turn-requires c κs = search needs
-
 returns : tie.Need-returns
 unfolding turn
 returns c = simp (c .before .if1 .taken, ← (c .closing-turn .ensures))
-
-read-span-requires : tie.Need-read-span-requires
-read-span-requires c κs = search needs
-
-span-turn-requires : tie.Need-span-turn-requires
-span-turn-requires c κs = search needs
 
 returns-2 : tie.Need-returns-2
 unfolding turn
@@ -31,4 +22,4 @@ returns-2 c =
 pub next-segment-spec : {M : Type 1} → statement M
 next-segment-spec =
     tie.close
-    (tie.spec closing-turn-requires returns read-span-requires span-turn-requires returns-2)
+    (tie.spec (search needs) returns (search needs) (search needs) returns-2)

@@ -7,12 +7,6 @@ use borrow.Author.Needs.{needs}
 use Rattle.segments.proofs.turn.span_turn.Statement.{statement}
 use Rattle.segments.proofs.turn.span_turn.Tie as tie
 
-ended-requires : tie.Need-ended-requires
-ended-requires c κs = search needs
-
-halted-requires : tie.Need-halted-requires
-halted-requires c κs = search needs
-
 returns : tie.Need-returns
 unfolding spanTurn
 returns c = simp (← (c .before .before .ended .ensures), c .before .if1 .taken, ← (c .halted .ensures))
@@ -23,26 +17,11 @@ sub-rest c =
     let a = e .before .before .args in
     omega (arith, goes-on (a .span) (a .place .done) (sym (e .before .ended .ensures) ∙ e .if1 .left) .0)
 
-cast-rest : tie.Need-cast-rest
-cast-rest c = search needs
-
 add-t8 : tie.Need-add-t8
 add-t8 c =
     let e = c .before .before in
     let a = e .before .before .args in
     omega (arith, goes-on (a .span) (a .place .done) (sym (e .before .ended .ensures) ∙ e .if1 .left) .1)
-
-fitted-requires : tie.Need-fitted-requires
-fitted-requires c κs = search needs
-
-from-behind-requires : tie.Need-from-behind-requires
-from-behind-requires c κs = search needs
-
-behind-requires : tie.Need-behind-requires
-behind-requires c κs = search needs
-
-less-requires : tie.Need-less-requires
-less-requires c κs = search needs
 
 returns-2 : tie.Need-returns-2
 unfolding spanTurn
@@ -55,15 +34,4 @@ returns-2 c =
 pub span-turn-spec : {M : Type 1} → statement M
 span-turn-spec =
     tie.close
-    (tie.spec
-    ended-requires
-    halted-requires
-    returns
-    sub-rest
-    cast-rest
-    add-t8
-    fitted-requires
-    from-behind-requires
-    behind-requires
-    less-requires
-    returns-2)
+    (tie.spec (search needs) (search needs) returns sub-rest (search needs) add-t8 (search needs) (search needs) (search needs) (search needs) returns-2)

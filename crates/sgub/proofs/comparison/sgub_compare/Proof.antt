@@ -5,18 +5,6 @@ use borrow.Author.Needs.{needs}
 use Rattle.sgub.proofs.comparison.sgub_compare.Statement.{statement}
 use Rattle.sgub.proofs.comparison.sgub_compare.Tie as tie
 
-compare-requires : tie.Need-compare-requires
-compare-requires c κs = search needs
-
-compared-of-requires : tie.Need-compared-of-requires
-compared-of-requires c κs = search needs
-
-same-length : tie.Need-same-length
-same-length c = search needs
-
-same-length-2 : tie.Need-same-length-2
-same-length-2 c = search needs
-
 returns : tie.Need-returns
 returns c =
     let found = c .before .before .before .before .before .compare .ensures in
@@ -24,4 +12,4 @@ returns c =
 
 pub sgub-compare-spec : {M : Type 1} → statement M
 sgub-compare-spec =
-    tie.close (tie.spec compare-requires compared-of-requires same-length same-length-2 returns)
+    tie.close (tie.spec (search needs) (search needs) (search needs) (search needs) returns)

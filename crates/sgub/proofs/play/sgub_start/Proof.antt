@@ -3,18 +3,6 @@ use borrow.Author.Needs.{needs}
 use Rattle.sgub.proofs.play.sgub_start.Statement.{statement}
 use Rattle.sgub.proofs.play.sgub_start.Tie as tie
 
-start-requires : tie.Need-start-requires
-start-requires c κs = search needs
-
-enum-told : tie.Need-enum-told
-enum-told c = search needs
-
-enum-known-verdict : tie.Need-enum-known-verdict
-enum-known-verdict c = search needs
-
-number-requires : tie.Need-number-requires
-number-requires c κs = search needs
-
 returns : tie.Need-returns
 returns c =
     let found = c .before .before .before .start .ensures in
@@ -28,10 +16,4 @@ returns-2 c =
 pub sgub-start-spec : {M : Type 1} → statement M
 sgub-start-spec =
     tie.close
-    (tie.spec
-    start-requires
-    enum-told
-    enum-known-verdict
-    number-requires
-    returns
-    returns-2)
+    (tie.spec (search needs) (search needs) (search needs) (search needs) returns returns-2)

@@ -5,15 +5,6 @@ use borrow.Author.Needs.{needs}
 use Rattle.sgub.proofs.repack.sgub_repack.Statement.{statement}
 use Rattle.sgub.proofs.repack.sgub_repack.Tie as tie
 
-compile-song-v2-requires : tie.Need-compile-song-v2-requires
-compile-song-v2-requires c κs = search needs
-
-repacked-of-requires : tie.Need-repacked-of-requires
-repacked-of-requires c κs = search needs
-
-same-length : tie.Need-same-length
-same-length c = search needs
-
 returns : tie.Need-returns
 returns c =
     let found = c .before .before .before .compile-song-v2 .ensures in
@@ -21,4 +12,4 @@ returns c =
 
 pub sgub-repack-spec : {M : Type 1} → statement M
 sgub-repack-spec =
-    tie.close (tie.spec compile-song-v2-requires repacked-of-requires same-length returns)
+    tie.close (tie.spec (search needs) (search needs) (search needs) returns)

@@ -4,20 +4,8 @@ use Rattle.format.proofs.As25.{as25-bind, as25-then}
 use Rattle.used.proofs.item.item_used.Statement.{statement}
 use Rattle.used.proofs.item.item_used.Tie as tie
 
-read-item-requires : tie.Need-read-item-requires
-read-item-requires c κs = search needs
-
-enum-known-operation : tie.Need-enum-known-operation
-enum-known-operation c = search needs
-
-use-wrong-requires : tie.Need-use-wrong-requires
-use-wrong-requires c κs = search needs
-
 returns : tie.Need-returns
 returns c = simp (as25-bind, ← (c .before .before .before .before .before .read-item .ensures), c .before .before .before .operation .given .1, as25-then, ← (c .before .use-wrong .ensures), c .if1 .taken)
-
-enum-told : tie.Need-enum-told
-enum-told c = search needs
 
 returns-2 : tie.Need-returns-2
 returns-2 c = simp (as25-bind, ← (c .before .before .before .before .before .read-item .ensures), c .before .before .before .operation .given .1, as25-then, ← (c .before .use-wrong .ensures), c .if1 .left)
@@ -28,11 +16,4 @@ returns-3 c = simp (← (c .before .before .read-item .ensures), c .enum-told .g
 pub item-used-spec : {M : Type 1} → statement M
 item-used-spec =
     tie.close
-    (tie.spec
-    read-item-requires
-    enum-known-operation
-    use-wrong-requires
-    returns
-    enum-told
-    returns-2
-    returns-3)
+    (tie.spec (search needs) (search needs) (search needs) returns (search needs) returns-2 returns-3)

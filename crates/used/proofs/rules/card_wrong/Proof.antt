@@ -13,22 +13,10 @@ returns-2 c = simp (eq-eqb _ _ (c .before .if1 .left), lt-leb _ _ (c .if2 .taken
 returns-3 : tie.Need-returns-3
 returns-3 c = simp (eq-eqb _ _ (c .before .before .if1 .left), le-leb _ _ (c .before .if2 .left), lt-leb _ _ (c .if3 .taken))
 
-slot-requires : tie.Need-slot-requires
-slot-requires c κs = search needs
-
-slot-wrong-requires : tie.Need-slot-wrong-requires
-slot-wrong-requires c κs = search needs
-
 returns-4 : tie.Need-returns-4
 returns-4 c = simp (eq-eqb _ _ (c .before .before .before .before .if1 .left), le-leb _ _ (c .before .before .before .if2 .left), le-leb _ _ (c .before .before .if3 .left), ← (c .before .slot .ensures), ← (c .slot-wrong .ensures))
 
 pub card-wrong-spec : {M : Type 1} → statement M
 card-wrong-spec =
     tie.close
-    (tie.spec
-    returns
-    returns-2
-    returns-3
-    slot-requires
-    slot-wrong-requires
-    returns-4)
+    (tie.spec returns returns-2 returns-3 (search needs) (search needs) returns-4)

@@ -35,9 +35,6 @@ mul-card c = omega arith
 element-copy-out-card : tie.Need-element-copy-out-card Inv-loop μ-loop
 element-copy-out-card c = omega arith
 
-one-card-wrong-requires : tie.Need-one-card-wrong-requires Inv-loop μ-loop
-one-card-wrong-requires c κs = search needs
-
 returns-2 : tie.Need-returns-2 Inv-loop μ-loop
 returns-2 c =
     let found = c .before .before .before in
@@ -69,16 +66,4 @@ returns-3 c =
 pub slot-wrong-spec : {M : Type 1} → statement M
 slot-wrong-spec =
     tie.close
-    (tie.spec
-    Inv-loop
-    μ-loop
-    loop-holds
-    returns
-    mul-card
-    element-copy-out-card
-    one-card-wrong-requires
-    returns-2
-    add-i
-    loop-less
-    loop-again
-    returns-3)
+    (tie.spec Inv-loop μ-loop loop-holds returns mul-card element-copy-out-card (search needs) returns-2 add-i loop-less loop-again returns-3)
