@@ -1,6 +1,6 @@
 -- `fill_step` meets its contract. Assumes nothing.
 use borrow.Author.Needs.{needs}
-use borrow.Author.Tests.{le-leb, le-ltb, lt-leb, lt-ltb}
+use borrow.Author.Tests.{le-ltb, lt-ltb}
 use native.Mathlib.Omega.{arith}
 use Prim.Native.Nat.{_≤_}
 use Rattle.format.specs.Card.{cardsOf}
@@ -15,11 +15,16 @@ returns c = simp (c .before .if1 .taken, ← (c .no-step .ensures))
 
 returns-2 : tie.Need-returns-2
 unfolding fillStep
-returns-2 c = simp (c .before .before .before .if1 .left, ← (c .before .before .byte-at .ensures), lt-leb _ _ (c .before .if2 .taken), lt-ltb _ _ (c .before .if2 .taken), ← (c .no-step2 .ensures))
+returns-2 c =
+    let b = c .before .before in
+    simp (b .before .if1 .left, ← (b .byte-at .ensures), lt-ltb _ _ (c .before .if2 .taken), ← (c .no-step2 .ensures))
 
 returns-3 : tie.Need-returns-3
 unfolding fillStep
-returns-3 c = simp (c .before .before .before .before .before .before .before .if1 .left, ← (c .before .before .before .before .before .before .byte-at .ensures), le-ltb _ _ (c .before .before .before .before .before .if2 .left), le-leb _ _ (c .before .before .before .before .before .if2 .left), ← (c .before .before .before .pace-fills .ensures), c .before .if3 .taken, ← (c .no-step3 .ensures))
+returns-3 c =
+    let k = c .before .before .before in
+    let b = k .before .before in
+    simp (b .before .before .if1 .left, ← (b .before .byte-at .ensures), le-ltb _ _ (b .if2 .left), ← (k .pace-fills .ensures), c .before .if3 .taken, ← (c .no-step3 .ensures))
 
 -- no more operations and no more room are left than there were
 fewer : (c : tie.After-struct-known3) → (c .before .before .before .pace-fills .result .left ≤ leftOf (c .before .before .before .before .before .before .before .before .before .args .current)) × (c .before .before .before .pace-fills .result .room ≤ c .before .before .before .before .before .before .before .before .before .args .room)
