@@ -17,7 +17,9 @@ use Rattle.agreement.proofs.Alike.{all-alike}
 -- DEMAND 3
 
 -- of one player: its listener heard the vsyncs whole
-pub listened : (file : List ℕ) (s : Stream) → read file ≡ ok s → (calls : List Call) → AllAdmissible file (started file) calls → begunNoFurther (answers (started file) calls) ≡ true → heardAll newListener (answers (started file) calls) ≡ heardVsyncs newListener (vsyncsFrom s 0 (completed (answers (started file) calls)))
+pub listened : (file : List ℕ) (s : Stream) → read file ≡ ok s → (calls : List Call) → AllAdmissible file (started file) calls
+    → begunNoFurther (answers (started file) calls) ≡ true
+    → heardAll newListener (answers (started file) calls) ≡ heardVsyncs newListener (vsyncsFrom s 0 (completed (answers (started file) calls)))
 unfolding newListener coreWrites played
 listened file s accepted calls admissible rests =
     heard-whole (answers (started file) calls) true [] _ [] (λ e. refl) rests ∙ ap (heardVsyncs newListener) (each-vsync file s accepted calls admissible)
@@ -29,4 +31,12 @@ demand3 master other image image′ equal calls calls′ admissible admissible�
     let l′ = listened other (p .s′) (p .accepted′) calls′ admissible′ rests′ in
     let same = all-alike (p .s) (p .s′) (p .agree) (completed (answers (started master) calls)) in
     let counted = ap (λ (n : ℕ). heardVsyncs newListener (vsyncsFrom (p .s′) 0 n)) counts in
-    record { s = p .s; s′ = p .s′; accepted = p .accepted; accepted′ = p .accepted′; held = l ∙ same ∙ counted ∙ sym l′; writes = each-vsync master (p .s) (p .accepted) calls admissible; writes′ = each-vsync other (p .s′) (p .accepted′) calls′ admissible′ }
+    record {
+      s = p .s;
+      s′ = p .s′;
+      accepted = p .accepted;
+      accepted′ = p .accepted′;
+      held = l ∙ same ∙ counted ∙ sym l′;
+      writes = each-vsync master (p .s) (p .accepted) calls admissible;
+      writes′ = each-vsync other (p .s′) (p .accepted′) calls′ admissible′;
+    }

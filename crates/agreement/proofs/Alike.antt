@@ -12,7 +12,7 @@ use Rattle.format.specs.Stream.{Stream}
 use Rattle.format.specs.Writes.{openingWrites, frameWrites, usesSi22, silence, closingWrites, closing, vsync}
 use Rattle.format.proofs.Compared.{Agree}
 use Rattle.format.proofs.Same.{core-append, played-append}
-use Rattle.agreement.proofs.Heard.{heardVsyncs}
+use Rattle.agreement.proofs.Heard.{heardVsyncs, between}
 
 -- two lists of writes that a listener cannot tell apart
 pub record Alike (a b : List WriteRecord) : Type 0 where
@@ -35,7 +35,9 @@ unfolding vsync closing
 alike-later s s′ a k =
     rw (a .repeat, a .count) (go (s′ .repeat) (ltb (suc k) (length (s′ .frames))) (eqb (suc k) (length (s′ .frames))))
   where
-    go : (again within after : Bool) → Alike (cond again (frameWrites s (suc k % length (s′ .frames))) (cond within (frameWrites s (suc k)) (cond after (closingWrites (usesSi22 s)) []))) (cond again (frameWrites s′ (suc k % length (s′ .frames))) (cond within (frameWrites s′ (suc k)) (cond after (closingWrites (usesSi22 s′)) [])))
+    go : (again within after : Bool)
+        → Alike (cond again (frameWrites s (suc k % length (s′ .frames))) (cond within (frameWrites s (suc k)) (cond after (closingWrites (usesSi22 s)) [])))
+        (cond again (frameWrites s′ (suc k % length (s′ .frames))) (cond within (frameWrites s′ (suc k)) (cond after (closingWrites (usesSi22 s′)) [])))
     go true within after = alike-refl (a .frame _)
     go false true after = alike-refl (a .frame _)
     go false false true = closing-alike _ _
@@ -47,17 +49,18 @@ unfolding heardVsyncs vsyncsFrom
 later s s′ a zero k l l′ e = e
 later s s′ a (suc count) k l l′ e =
     let alike = alike-later s s′ a k in
-    later s s′ a count (suc k) _ _ (ap₂ (λ (ended : List (List WriteRecord)) (pcm : List ℕ). record { ended = ended; current = []; pcm = pcm }) (ap₂ (λ (l : Listener) (v : List WriteRecord). l .ended ++ (v ∷ [])) e (alike .cores)) (ap (λ (l : Listener). played (l .pcm) (vsync s (suc k))) e ∙ alike .pcm (l′ .pcm)))
+    let ended = ap₂ (λ (l : Listener) (v : List WriteRecord). l .ended ++ (v ∷ [])) e (alike .cores) in
+    let pcm = ap (λ (l : Listener). played (l .pcm) (vsync s (suc k))) e ∙ alike .pcm (l′ .pcm) in
+    later s s′ a count (suc k) _ _ (ap₂ between ended pcm)
 
 -- the first vsync
-first : (s s′ : Stream) → Agree s s′ → _≡_ {A = Listener} (record { ended = coreWrites (vsync s 0) ∷ []; current = []; pcm = played (replicate 1048576 0x80) (vsync s 0) }) (record { ended = coreWrites (vsync s′ 0) ∷ []; current = []; pcm = played (replicate 1048576 0x80) (vsync s′ 0) })
+first : (s s′ : Stream) → Agree s s′
+    → between (coreWrites (vsync s 0) ∷ []) (played (replicate 1048576 0x80) (vsync s 0)) ≡ between (coreWrites (vsync s′ 0) ∷ []) (played (replicate 1048576 0x80) (vsync s′ 0))
 unfolding vsync
 first s s′ a =
-    let cores : coreWrites (openingWrites s ++ frameWrites s 0) ≡ coreWrites (openingWrites s′ ++ frameWrites s′ 0) =
-    core-append (openingWrites s) (frameWrites s 0) ∙ ap₂ _++_ (a .cores) (ap coreWrites (a .frame 0)) ∙ sym (core-append (openingWrites s′) (frameWrites s′ 0)) in
-    let pcm : played (replicate 1048576 0x80) (openingWrites s ++ frameWrites s 0) ≡ played (replicate 1048576 0x80) (openingWrites s′ ++ frameWrites s′ 0) =
-    played-append _ (openingWrites s) (frameWrites s 0) ∙ ap₂ played (a .image) (a .frame 0) ∙ sym (played-append _ (openingWrites s′) (frameWrites s′ 0)) in
-    ap₂ (λ (v : List WriteRecord) (pcm : List ℕ). record { ended = v ∷ []; current = []; pcm = pcm }) cores pcm
+    let cores = core-append (openingWrites s) (frameWrites s 0) ∙ ap₂ _++_ (a .cores) (ap coreWrites (a .frame 0)) ∙ sym (core-append (openingWrites s′) (frameWrites s′ 0)) in
+    let pcm = played-append (replicate 1048576 0x80) (openingWrites s) (frameWrites s 0) ∙ ap₂ played (a .image) (a .frame 0) ∙ sym (played-append _ (openingWrites s′) (frameWrites s′ 0)) in
+    ap₂ (λ (v : List WriteRecord) (pcm : List ℕ). between (v ∷ []) pcm) cores pcm
 
 -- and so do all of them, from the beginning
 pub all-alike : (s s′ : Stream) → Agree s s′ → (count : ℕ) → heardVsyncs newListener (vsyncsFrom s 0 count) ≡ heardVsyncs newListener (vsyncsFrom s′ 0 count)

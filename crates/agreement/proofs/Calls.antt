@@ -72,24 +72,36 @@ module _ (file : List ℕ) (s : Stream) (accepted : read file ≡ ok s) where
       (last : Bool) (state : StreamPlayer) (k : ℕ) (rest current : List WriteRecord) → Holds file s state k rest → AllAdmissible file state calls → Left last state k rest current (answers state calls) (reached state calls)
 
   -- after an answer that took what there was room for
-  settled : (calls : List Call) → Leaves calls → (last : Bool) (state : StreamPlayer) (k : ℕ) (rest current : List WriteRecord) (room : ℕ) (next : StreamPlayer) (done : Bool) → leb (length rest) room ≡ done → Holds file s next (cond done (suc k) k) (cond done (vsync s (suc k)) (drop room rest)) → (done ≡ true → next .progress .«wave_sources» ≡ wavesBefore file s (suc k)) → AllAdmissible file next calls → Left last state k rest current (ok (record { records = take room rest; complete = done; next = next }) ∷ answers next calls) (reached next calls)
+  settled : (calls : List Call) → Leaves calls → (last : Bool) (state : StreamPlayer) (k : ℕ) (rest current : List WriteRecord) (room : ℕ) (next : StreamPlayer) (done : Bool)
+      → leb (length rest) room ≡ done → Holds file s next (cond done (suc k) k) (cond done (vsync s (suc k)) (drop room rest))
+      → (done ≡ true → next .progress .«wave_sources» ≡ wavesBefore file s (suc k)) → AllAdmissible file next calls
+      → Left last state k rest current (ok (record { records = take room rest; complete = done; next = next }) ∷ answers next calls) (reached next calls)
   unfolding completed resting recordsFrom vsyncsFrom
   settled calls leaves last state k rest current room next true e holds sources admissible =
       let left = leaves true next (suc k) (vsync s (suc k)) [] holds admissible in
       let count : suc k + completed (answers next calls) ≡ k + suc (completed (answers next calls)) = omega arith in
       let all : take room rest ≡ rest = take-all room rest (leb-true _ _ e) in
-      record { records = λ joined. ap₂ _∷_ (ap (λ (l : List WriteRecord). current ++ l) all ∙ joined) (left .records refl); rest′ = left .rest′; holds = rw count at (left .holds); rests = λ start rests. subst (Rests (reached next calls)) count (left .rests (λ e. record { holds = holds; sources = sources refl }) rests) }
+      record {
+        records = λ joined. ap₂ _∷_ (ap (λ (l : List WriteRecord). current ++ l) all ∙ joined) (left .records refl);
+        rest′ = left .rest′;
+        holds = rw count at (left .holds);
+        rests = λ start rests. subst (Rests (reached next calls)) count (left .rests (λ e. record { holds = holds; sources = sources refl }) rests);
+      }
   settled calls leaves last state k rest current room next false e holds sources admissible =
       let left = leaves false next k (drop room rest) (current ++ take room rest) holds admissible in
       let regrouped : current ++ take room rest ++ drop room rest ≡ current ++ rest = append-assoc current (take room rest) (drop room rest) ∙ ap (λ (l : List WriteRecord). current ++ l) (take-append-drop room rest) in
       record { records = λ joined. left .records (regrouped ∙ joined); rest′ = left .rest′; holds = left .holds; rests = λ start rests. left .rests (λ e. absurd (false≢true e)) rests }
 
-  went : (calls : List Call) → Leaves calls → (last : Bool) (state : StreamPlayer) (k : ℕ) (rest current : List WriteRecord) (room : ℕ) (answer : Checked Played) → Goes s (Holds file s) k rest room answer → ((a : Played) → answer ≡ ok a → a .complete ≡ true → a .next .progress .«wave_sources» ≡ wavesBefore file s (suc k)) → AllAdmissible file (after state answer) calls → Left last state k rest current (answer ∷ answers (after state answer) calls) (reached (after state answer) calls)
+  went : (calls : List Call) → Leaves calls → (last : Bool) (state : StreamPlayer) (k : ℕ) (rest current : List WriteRecord) (room : ℕ) (answer : Checked Played)
+      → Goes s (Holds file s) k rest room answer → ((a : Played) → answer ≡ ok a → a .complete ≡ true → a .next .progress .«wave_sources» ≡ wavesBefore file s (suc k))
+      → AllAdmissible file (after state answer) calls → Left last state k rest current (answer ∷ answers (after state answer) calls) (reached (after state answer) calls)
   went calls leaves last state k rest current room answer goes sources admissible =
       rw (goes .is) (settled calls leaves last state k rest current room (goes .next) (leb (length rest) room) refl (goes .holds) (λ e. sources _ (goes .is) e) (rw (goes .is) at admissible))
 
   -- after a refusal nothing has changed
-  kept : (calls : List Call) → Leaves calls → (last : Bool) (state : StreamPlayer) (k : ℕ) (rest current : List WriteRecord) (answer : Checked Played) → answer ≡ refused 25 0 → Holds file s state k rest → AllAdmissible file (after state answer) calls → Left last state k rest current (answer ∷ answers (after state answer) calls) (reached (after state answer) calls)
+  kept : (calls : List Call) → Leaves calls → (last : Bool) (state : StreamPlayer) (k : ℕ) (rest current : List WriteRecord) (answer : Checked Played) → answer ≡ refused 25 0
+      → Holds file s state k rest → AllAdmissible file (after state answer) calls
+      → Left last state k rest current (answer ∷ answers (after state answer) calls) (reached (after state answer) calls)
   unfolding completed resting recordsFrom
   kept calls leaves last state k rest current (ok answer) e holds admissible = absurd (refused-not-ok (sym e))
   kept calls leaves last state k rest current (refused number place) e holds admissible =
@@ -97,11 +109,16 @@ module _ (file : List ℕ) (s : Stream) (accepted : read file ≡ ok s) where
       record { records = left .records; rest′ = left .rest′; holds = left .holds; rests = left .rests }
 
   -- a call with the file itself, or with any on a finished state
-  own-call : (c : Call) (calls : List Call) → Leaves calls → (last : Bool) (state : StreamPlayer) (k : ℕ) (rest current : List WriteRecord) → Holds file s state k rest → call state (c .file) (c .room) ≡ call state file (c .room) → AllAdmissible file (after state (call state (c .file) (c .room))) calls → Left last state k rest current (call state (c .file) (c .room) ∷ answers (after state (call state (c .file) (c .room))) calls) (reached (after state (call state (c .file) (c .room))) calls)
+  own-call : (c : Call) (calls : List Call) → Leaves calls → (last : Bool) (state : StreamPlayer) (k : ℕ) (rest current : List WriteRecord) → Holds file s state k rest
+      → call state (c .file) (c .room) ≡ call state file (c .room) → AllAdmissible file (after state (call state (c .file) (c .room))) calls
+      → Left last state k rest current (call state (c .file) (c .room) ∷ answers (after state (call state (c .file) (c .room))) calls) (reached (after state (call state (c .file) (c .room))) calls)
   own-call c calls leaves last state k rest current holds same admissible =
-      went calls leaves last state k rest current (c .room) (call state (c .file) (c .room)) (rw same (one-lemma file s accepted state k rest holds (c .room))) (λ a e complete. complete-sources file s accepted state k rest holds (c .room) a (sym same ∙ e) complete) admissible
+      went calls leaves last state k rest current (c .room) (call state (c .file) (c .room)) (rw same (one-lemma file s accepted state k rest holds (c .room)))
+      (λ a e complete. complete-sources file s accepted state k rest holds (c .room) a (sym same ∙ e) complete) admissible
 
-  answered : (c : Call) (calls : List Call) → Leaves calls → (last : Bool) (state : StreamPlayer) (k : ℕ) (rest current : List WriteRecord) → Holds file s state k rest → Admissible file state c → AllAdmissible file (after state (call state (c .file) (c .room))) calls → Left last state k rest current (call state (c .file) (c .room) ∷ answers (after state (call state (c .file) (c .room))) calls) (reached (after state (call state (c .file) (c .room))) calls)
+  answered : (c : Call) (calls : List Call) → Leaves calls → (last : Bool) (state : StreamPlayer) (k : ℕ) (rest current : List WriteRecord) → Holds file s state k rest
+      → Admissible file state c → AllAdmissible file (after state (call state (c .file) (c .room))) calls
+      → Left last state k rest current (call state (c .file) (c .room) ∷ answers (after state (call state (c .file) (c .room))) calls) (reached (after state (call state (c .file) (c .room))) calls)
   answered c calls leaves last state k rest current holds (ownFile own) admissible =
       own-call c calls leaves last state k rest current holds (ap (λ (f : List ℕ). call state f (c .room)) own) admissible
   answered c calls leaves last state k rest current holds (refusedFile e) admissible =
@@ -139,7 +156,8 @@ module _ (file : List ℕ) (s : Stream) (accepted : read file ≡ ok s) where
       subst (Rests (reached (started file) calls)) none (left .rests (λ e. record { holds = start-holds file s accepted; sources = start-sources file s accepted }) rests)
 
   -- `wave_source` is the pool last copied in the vsyncs that are completed
-  pub wave-sources : (calls : List Call) → AllAdmissible file (started file) calls → begunNoFurther (answers (started file) calls) ≡ true → reached (started file) calls .progress .«wave_sources» ≡ wavesBefore file s (completed (answers (started file) calls))
+  pub wave-sources : (calls : List Call) → AllAdmissible file (started file) calls → begunNoFurther (answers (started file) calls) ≡ true
+      → reached (started file) calls .progress .«wave_sources» ≡ wavesBefore file s (completed (answers (started file) calls))
   wave-sources calls admissible rests = reached-rests calls admissible rests .sources
 
   -- HOW MANY CALLS A VSYNC TAKES
@@ -181,7 +199,8 @@ module _ (file : List ℕ) (s : Stream) (accepted : read file ≡ ok s) where
       stay .counts (same room count) ∙ none-yet count room (stay .next) k (drop room rest) (stay .holds) (omega (arith, length-drop room rest))
 
   -- and the call that leaves none completes it
-  one-then : (count room : ℕ) (state : StreamPlayer) (k : ℕ) (rest : List WriteRecord) → Holds file s state k rest → length rest ≤ suc count * room → (0 < count → count * room < length rest) → completed (answers state (same room (suc count))) ≡ 1
+  one-then : (count room : ℕ) (state : StreamPlayer) (k : ℕ) (rest : List WriteRecord) → Holds file s state k rest → length rest ≤ suc count * room
+      → (0 < count → count * room < length rest) → completed (answers state (same room (suc count))) ≡ 1
   one-then zero room state k rest holds enough less = ends state k rest room holds (omega arith)
   one-then (suc count) room state k rest holds enough less =
       let before : count * room + room < length rest = rw suc-mul at (less (omega arith)) in
@@ -194,7 +213,9 @@ module _ (file : List ℕ) (s : Stream) (accepted : read file ≡ ok s) where
   no-calls state = refl
 
   -- "with n ≥ 1 records, W writes take W/n calls rounded up, at least one"
-  pub rounds : (calls : List Call) → AllAdmissible file (started file) calls → begunNoFurther (answers (started file) calls) ≡ true → (room : ℕ) → 0 < room → let writes = length (vsync s (completed (answers (started file) calls))) in (completed (answers (reached (started file) calls) (same room (callsFor writes room))) ≡ 1) × ((count : ℕ) → count < callsFor writes room → completed (answers (reached (started file) calls) (same room count)) ≡ 0)
+  pub rounds : (calls : List Call) → AllAdmissible file (started file) calls → begunNoFurther (answers (started file) calls) ≡ true → (room : ℕ) → 0 < room → let writes =
+      length (vsync s (completed (answers (started file) calls))) in (completed (answers (reached (started file) calls) (same room (callsFor writes room))) ≡ 1)
+      × ((count : ℕ) → count < callsFor writes room → completed (answers (reached (started file) calls) (same room count)) ≡ 0)
   rounds calls admissible rests room some =
       let count : ℕ = completed (answers (started file) calls) in
       let state : StreamPlayer = reached (started file) calls in
@@ -202,6 +223,7 @@ module _ (file : List ℕ) (s : Stream) (accepted : read file ≡ ok s) where
       let rounded = rounded-up (length (vsync s count)) room some in
       (rw (rounded .is) (one-then (rounded .before) room state count (vsync s count) holds (rounded .enough) (λ positive. rounded .less (rounded .before) positive (omega (arith, rounded .is)))), fewer state count holds rounded)
     where
-      fewer : (state : StreamPlayer) (k : ℕ) → Holds file s state k (vsync s k) → Rounded (length (vsync s k)) room (callsFor (length (vsync s k)) room) → (count : ℕ) → count < callsFor (length (vsync s k)) room → completed (answers state (same room count)) ≡ 0
+      fewer : (state : StreamPlayer) (k : ℕ) → Holds file s state k (vsync s k) → Rounded (length (vsync s k)) room (callsFor (length (vsync s k)) room) → (count : ℕ)
+          → count < callsFor (length (vsync s k)) room → completed (answers state (same room count)) ≡ 0
       fewer state k holds rounded zero less = no-calls state
       fewer state k holds rounded (suc count) less = none-yet (suc count) room state k (vsync s k) holds (rounded .less (suc count) (omega arith) less)

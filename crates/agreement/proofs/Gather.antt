@@ -23,7 +23,7 @@ use Rattle.format.specs.Writes.{writesOf, writesOfAll}
 use Rattle.format.proofs.Accepted.{Accepted, settingFor}
 use Rattle.format.proofs.Checks.{ok-is}
 use Rattle.format.proofs.Steps.{operation-step}
-use Rattle.agreement.proofs.Used.{item-is, operation-fine, item-used}
+use Rattle.play_laws.proofs.Used.{item-is, operation-fine, item-used}
 
 -- the setting of an accepted file
 abbrev pub own : List ℕ → Stream → Setting
@@ -76,23 +76,39 @@ nothing-left file s limit end cursor writes pending waves final at =
     let none : [] ≡ at .operations = ap (λ (x : List Operation × ℕ). x .0) (ok-is (at .from)) in
     at .is ∙ ap (λ (l : List Operation). drop writes (writesOfAll (s .pools) l)) (sym none) ∙ drop-nil writes
 
-apart : (s : Stream) (writes : ℕ) (operation : Operation) (more : List Operation) → writes < length (writesOf (s .pools) operation) → drop writes (writesOfAll (s .pools) (operation ∷ more)) ≡ drop writes (writesOf (s .pools) operation) ++ writesOfAll (s .pools) more
+apart : (s : Stream) (writes : ℕ) (operation : Operation) (more : List Operation) → writes < length (writesOf (s .pools) operation)
+    → drop writes (writesOfAll (s .pools) (operation ∷ more)) ≡ drop writes (writesOf (s .pools) operation) ++ writesOfAll (s .pools) more
 unfolding writesOfAll
 apart s writes operation more h = drop-append-le writes (writesOf (s .pools) operation) (writesOfAll (s .pools) more) (omega arith)
 
-next-from : (file : List ℕ) (s : Stream) (limit end left cursor writes : ℕ) (pending : List WriteRecord) (waves final : List WaveSource) (item : Item) (found : List Operation × ℕ) (at : At file s limit end (suc left) cursor writes pending waves final) → itemAt (own file s) file limit cursor ≡ ok item → operationsFrom (own file s) file limit left (item .next) ≡ ok found → _≡_ {A = List Operation × ℕ} (item .operation ∷ found .0, found .1) (at .operations, end) → Next file s limit end left cursor writes pending waves final
+next-from : (file : List ℕ) (s : Stream) (limit end left cursor writes : ℕ) (pending : List WriteRecord) (waves final : List WaveSource) (item : Item) (found : List Operation × ℕ)
+    (at : At file s limit end (suc left) cursor writes pending waves final)
+    → itemAt (own file s) file limit cursor ≡ ok item → operationsFrom (own file s) file limit left (item .next) ≡ ok found
+    → _≡_ {A = List Operation × ℕ} (item .operation ∷ found .0, found .1) (at .operations, end) → Next file s limit end left cursor writes pending waves final
 next-from file s limit end left cursor writes pending waves final item found at here from both =
     let operations : item .operation ∷ found .0 ≡ at .operations = ap (λ (x : List Operation × ℕ). x .0) both in
     let fits : writes < length (writesOf (s .pools) (item .operation)) = subst (Fits s writes) (sym operations) (at .fits) in
-    record { item = item; more = found .0; here = here; from = from ∙ ap (λ (n : ℕ). ok (found .0, n)) (ap (λ (x : List Operation × ℕ). x .1) both); fits = fits; is = at .is ∙ ap (λ (l : List Operation). drop writes (writesOfAll (s .pools) l)) (sym operations) ∙ apart s writes (item .operation) (found .0) fits; sources = ap (λ (l : List Operation). coming file writes l waves) operations ∙ at .sources }
+    record {
+      item = item;
+      more = found .0;
+      here = here;
+      from = from ∙ ap (λ (n : ℕ). ok (found .0, n)) (ap (λ (x : List Operation × ℕ). x .1) both);
+      fits = fits;
+      is = at .is ∙ ap (λ (l : List Operation). drop writes (writesOfAll (s .pools) l)) (sym operations) ∙ apart s writes (item .operation) (found .0) fits;
+      sources = ap (λ (l : List Operation). coming file writes l waves) operations ∙ at .sources;
+    }
 
-pub next-of : (file : List ℕ) (s : Stream) (limit end left cursor writes : ℕ) (pending : List WriteRecord) (waves final : List WaveSource) → At file s limit end (suc left) cursor writes pending waves final → Next file s limit end left cursor writes pending waves final
+pub next-of : (file : List ℕ) (s : Stream) (limit end left cursor writes : ℕ) (pending : List WriteRecord) (waves final : List WaveSource)
+    → At file s limit end (suc left) cursor writes pending waves final → Next file s limit end left cursor writes pending waves final
 next-of file s limit end left cursor writes pending waves final at =
     let step = operation-step (own file s) file limit left cursor (at .operations, end) (at .from) in
     next-from file s limit end left cursor writes pending waves final (step .item) (step .others) at (step .here) (step .from) (step .is)
 
 -- with more of the first operation's writes done
-at-next : (file : List ℕ) (s : Stream) (limit end left cursor writes : ℕ) (pending : List WriteRecord) (waves final : List WaveSource) (n : Next file s limit end left cursor writes pending waves final) (done : ℕ) (after : List WaveSource) → done < length (writesOf (s .pools) (n .item .operation)) → coming file done (n .item .operation ∷ n .more) after ≡ final → At file s limit end (suc left) cursor done (drop done (writesOf (s .pools) (n .item .operation)) ++ writesOfAll (s .pools) (n .more)) after final
+at-next : (file : List ℕ) (s : Stream) (limit end left cursor writes : ℕ) (pending : List WriteRecord) (waves final : List WaveSource)
+    (n : Next file s limit end left cursor writes pending waves final) (done : ℕ) (after : List WaveSource)
+    → done < length (writesOf (s .pools) (n .item .operation)) → coming file done (n .item .operation ∷ n .more) after ≡ final
+    → At file s limit end (suc left) cursor done (drop done (writesOf (s .pools) (n .item .operation)) ++ writesOfAll (s .pools) (n .more)) after final
 unfolding operationsFrom
 at-next file s limit end left cursor writes pending waves final n done after h sources =
     record { operations = n .item .operation ∷ n .more; from = rw (n .here, n .from); fits = h; is = sym (apart s done (n .item .operation) (n .more) h); sources = sources }
@@ -113,7 +129,9 @@ unfolding wavesByAll
 coming-all file [] waves = refl
 coming-all file (operation ∷ more) waves = refl
 
-pub at-start : (file : List ℕ) (s : Stream) → Accepted file (headerOf file) s → (limit end left cursor : ℕ) (more : List Operation) → operationsFrom (own file s) file limit left cursor ≡ ok (more, end) → (waves : List WaveSource) → At file s limit end left cursor 0 (writesOfAll (s .pools) more) waves (wavesByAll file (headerOf file .«directory_offset») more waves)
+pub at-start : (file : List ℕ) (s : Stream) → Accepted file (headerOf file) s → (limit end left cursor : ℕ) (more : List Operation)
+    → operationsFrom (own file s) file limit left cursor ≡ ok (more, end) → (waves : List WaveSource)
+    → At file s limit end left cursor 0 (writesOfAll (s .pools) more) waves (wavesByAll file (headerOf file .«directory_offset») more waves)
 at-start file s acc limit end left cursor more e waves = record { operations = more; from = e; fits = fits-none file s acc limit end left cursor more e; is = refl; sources = coming-all file more waves }
 
 -- the wave sources after an operation's write
@@ -121,7 +139,18 @@ abbrev wavesAfter : List ℕ → Operation → Progress → List WaveSource
 wavesAfter file operation p = cond (eqb (p .«write_index») 0) (wavesBy file (headerOf file .«directory_offset») operation (p .«wave_sources»)) (p .«wave_sources»)
 
 -- one operation of its own file
-one-operation : (file : List ℕ) (s : Stream) → Accepted file (headerOf file) s → (q : Progress) (limit end left others : ℕ) (p : Progress) (pending : List WriteRecord) (final : List WaveSource) (n : Next file s limit end left (p .cursor) (p .«write_index») pending (p .«wave_sources») final) → gathered (playerOf file s q) file limit (suc left) (suc others) p ≡ cond (ltb (suc others) (length (drop (p .«write_index») (writesOf (s .pools) (n .item .operation))))) (ok (record { records = take (suc others) (drop (p .«write_index») (writesOf (s .pools) (n .item .operation))); room = 0; progress = placed p (p .cursor) (p .«operation_index») (p .«write_index» + suc others) (wavesAfter file (n .item .operation) p) })) (gathered (playerOf file s q) file limit left (suc others - length (drop (p .«write_index») (writesOf (s .pools) (n .item .operation)))) (placed p (n .item .next) (p .«operation_index» + 1) 0 (wavesAfter file (n .item .operation) p)) >>= λ (more : Gathered). ok (record { records = drop (p .«write_index») (writesOf (s .pools) (n .item .operation)) ++ more .records; room = more .room; progress = more .progress }))
+one-operation : (file : List ℕ) (s : Stream) → Accepted file (headerOf file) s
+    → (q : Progress) (limit end left others : ℕ) (p : Progress) (pending : List WriteRecord) (final : List WaveSource) (n : Next file s limit end left (p .cursor) (p .«write_index») pending (p .«wave_sources») final)
+    → gathered (playerOf file s q) file limit (suc left) (suc others) p ≡ cond (ltb (suc others) (length (drop (p .«write_index») (writesOf (s .pools) (n .item .operation))))) (ok (record {
+      records = take (suc others) (drop (p .«write_index») (writesOf (s .pools) (n .item .operation)));
+      room = 0;
+      progress = placed p (p .cursor) (p .«operation_index») (p .«write_index» + suc others) (wavesAfter file (n .item .operation) p);
+    })) (gathered (playerOf file s q) file limit left (suc others - length (drop (p .«write_index») (writesOf (s .pools) (n .item .operation))))
+    (placed p (n .item .next) (p .«operation_index» + 1) 0 (wavesAfter file (n .item .operation) p)) >>= λ (more : Gathered). ok (record {
+      records = drop (p .«write_index») (writesOf (s .pools) (n .item .operation)) ++ more .records;
+      room = more .room;
+      progress = more .progress;
+    }))
 unfolding gathered playerOf
 one-operation file s acc q limit end left others p pending final n =
     let is = item-is (own file s) file limit (p .cursor) (n .item) (n .here) in
@@ -147,20 +176,32 @@ gathered-is : {a b : List WriteRecord} {n m : ℕ} (p : Progress) → a ≡ b �
 gathered-is p e f = λ i. ok (record { records = e i; room = f i; progress = p })
 
 -- no operation is left
-gather-end : (file : List ℕ) (s : Stream) (q : Progress) (limit end room : ℕ) (p : Progress) (pending : List WriteRecord) (final : List WaveSource) → At file s limit end 0 (p .cursor) (p .«write_index») pending (p .«wave_sources») final → Took file s q limit end 0 room p pending final
+gather-end : (file : List ℕ) (s : Stream) (q : Progress) (limit end room : ℕ) (p : Progress) (pending : List WriteRecord) (final : List WaveSource)
+    → At file s limit end 0 (p .cursor) (p .«write_index») pending (p .«wave_sources») final → Took file s q limit end 0 room p pending final
 unfolding gathered
 gather-end file s q limit end room p pending final at =
     let none = nothing-left file s limit end (p .cursor) (p .«write_index») pending (p .«wave_sources») final at in
     let nowhere : drop room pending ≡ pending = ap (drop room) none ∙ drop-nil room ∙ sym none in
-    record { left′ = 0; cursor = p .cursor; index = p .«operation_index»; writes = p .«write_index»; waves = p .«wave_sources»; is = gathered-is p (sym (ap (take room) none ∙ take-nil room)) (rw none (sym (sub-zero room))); at = subst (λ (l : List WriteRecord). At file s limit end 0 (p .cursor) (p .«write_index») l (p .«wave_sources») final) (sym nowhere) at; counted = refl }
+    record {
+      left′ = 0;
+      cursor = p .cursor;
+      index = p .«operation_index»;
+      writes = p .«write_index»;
+      waves = p .«wave_sources»;
+      is = gathered-is p (sym (ap (take room) none ∙ take-nil room)) (rw none (sym (sub-zero room)));
+      at = subst (λ (l : List WriteRecord). At file s limit end 0 (p .cursor) (p .«write_index») l (p .«wave_sources») final) (sym nowhere) at;
+      counted = refl;
+    }
 
 -- there is no room
-gather-full : (file : List ℕ) (s : Stream) (q : Progress) (limit end left : ℕ) (p : Progress) (pending : List WriteRecord) (final : List WaveSource) → At file s limit end (suc left) (p .cursor) (p .«write_index») pending (p .«wave_sources») final → Took file s q limit end (suc left) 0 p pending final
+gather-full : (file : List ℕ) (s : Stream) (q : Progress) (limit end left : ℕ) (p : Progress) (pending : List WriteRecord) (final : List WaveSource)
+    → At file s limit end (suc left) (p .cursor) (p .«write_index») pending (p .«wave_sources») final → Took file s q limit end (suc left) 0 p pending final
 unfolding gathered
 gather-full file s q limit end left p pending final at =
     record { left′ = suc left; cursor = p .cursor; index = p .«operation_index»; writes = p .«write_index»; waves = p .«wave_sources»; is = gathered-is p refl (sym (zero-sub (length pending))); at = at; counted = refl }
 
-module _ (file : List ℕ) (s : Stream) (acc : Accepted file (headerOf file) s) (q : Progress) (limit end left others : ℕ) (p : Progress) (pending : List WriteRecord) (final : List WaveSource) (n : Next file s limit end left (p .cursor) (p .«write_index») pending (p .«wave_sources») final) where
+module _ (file : List ℕ) (s : Stream) (acc : Accepted file (headerOf file) s) (q : Progress) (limit end left others : ℕ) (p : Progress) (pending : List WriteRecord)
+    (final : List WaveSource) (n : Next file s limit end left (p .cursor) (p .«write_index») pending (p .«wave_sources») final) where
   -- what is left of the operation under way
   abbrev writes : List WriteRecord
   writes = writesOf (s .pools) (n .item .operation)
@@ -175,11 +216,23 @@ module _ (file : List ℕ) (s : Stream) (acc : Accepted file (headerOf file) s) 
       let inside : p .«write_index» + suc others < length writes = omega (arith, length-drop (p .«write_index») writes) in
       let long : length pending ≡ length rest + length (writesOfAll (s .pools) (n .more)) = ap length (n .is) ∙ length-append rest (writesOfAll (s .pools) (n .more)) in
       let taken : take (suc others) rest ≡ take (suc others) pending = sym (ap (take (suc others)) (n .is) ∙ take-append-le (suc others) rest (writesOfAll (s .pools) (n .more)) (omega arith)) in
-      let left-over : drop (suc others) pending ≡ drop (p .«write_index» + suc others) writes ++ writesOfAll (s .pools) (n .more) = ap (drop (suc others)) (n .is) ∙ drop-append-le (suc others) rest (writesOfAll (s .pools) (n .more)) (omega arith) ∙ ap (λ (l : List WriteRecord). l ++ writesOfAll (s .pools) (n .more)) (drop-drop (suc others) (p .«write_index») writes) in
+      let left-over : drop (suc others) pending ≡ drop (p .«write_index» + suc others) writes ++ writesOfAll (s .pools) (n .more) =
+      ap (drop (suc others)) (n .is) ∙ drop-append-le (suc others) rest (writesOfAll (s .pools) (n .more)) (omega arith)
+      ∙ ap (λ (l : List WriteRecord). l ++ writesOfAll (s .pools) (n .more)) (drop-drop (suc others) (p .«write_index») writes) in
       let room : 0 ≡ suc others - length pending = omega arith in
       let begun : eqb (p .«write_index» + suc others) 0 ≡ false = ne-eqb (p .«write_index» + suc others) 0 (λ (e : p .«write_index» + suc others ≡ 0). omega arith) in
       let sources : coming file (p .«write_index» + suc others) (n .item .operation ∷ n .more) (wavesAfter file (n .item .operation) p) ≡ final = rw begun (n .sources) in
-      record { left′ = suc left; cursor = p .cursor; index = p .«operation_index»; writes = p .«write_index» + suc others; waves = wavesAfter file (n .item .operation) p; is = one-operation file s acc q limit end left others p pending final n ∙ rw e (gathered-is _ taken room); at = subst (λ (l : List WriteRecord). At file s limit end (suc left) (p .cursor) (p .«write_index» + suc others) l (wavesAfter file (n .item .operation) p) final) (sym left-over) (at-next file s limit end left (p .cursor) (p .«write_index») pending (p .«wave_sources») final n _ _ inside sources); counted = refl }
+      record {
+        left′ = suc left;
+        cursor = p .cursor;
+        index = p .«operation_index»;
+        writes = p .«write_index» + suc others;
+        waves = wavesAfter file (n .item .operation) p;
+        is = one-operation file s acc q limit end left others p pending final n ∙ rw e (gathered-is _ taken room);
+        at = subst (λ (l : List WriteRecord). At file s limit end (suc left) (p .cursor) (p .«write_index» + suc others) l (wavesAfter file (n .item .operation) p) final) (sym left-over)
+            (at-next file s limit end left (p .cursor) (p .«write_index») pending (p .«wave_sources») final n _ _ inside sources);
+        counted = refl;
+      }
 
   -- the operation is done, and the others go on
   abbrev onward : Progress
@@ -192,26 +245,42 @@ module _ (file : List ℕ) (s : Stream) (acc : Accepted file (headerOf file) s) 
       let taken : rest ++ take (suc others - length rest) (writesOfAll (s .pools) (n .more)) ≡ take (suc others) pending = sym (ap (take (suc others)) (n .is) ∙ take-past (suc others) rest (writesOfAll (s .pools) (n .more)) enough) in
       let left-over : drop (suc others) pending ≡ drop (suc others - length rest) (writesOfAll (s .pools) (n .more)) = ap (drop (suc others)) (n .is) ∙ drop-past (suc others) rest (writesOfAll (s .pools) (n .more)) enough in
       let room : suc others - length rest - length (writesOfAll (s .pools) (n .more)) ≡ suc others - length pending = omega arith in
-      record { left′ = took .left′; cursor = took .cursor; index = took .index; writes = took .writes; waves = took .waves; is = one-operation file s acc q limit end left others p pending final n ∙ rw (e, took .is) (gathered-is _ taken room); at = subst (λ (l : List WriteRecord). At file s limit end (took .left′) (took .cursor) (took .writes) l (took .waves) final) (sym left-over) (took .at); counted = omega (arith, took .counted) }
+      record {
+        left′ = took .left′;
+        cursor = took .cursor;
+        index = took .index;
+        writes = took .writes;
+        waves = took .waves;
+        is = one-operation file s acc q limit end left others p pending final n ∙ rw (e, took .is) (gathered-is _ taken room);
+        at = subst (λ (l : List WriteRecord). At file s limit end (took .left′) (took .cursor) (took .writes) l (took .waves) final) (sym left-over) (took .at);
+        counted = omega (arith, took .counted);
+      }
 
-  gather-next : (within : Bool) → ltb (suc others) (length rest) ≡ within → Took file s q limit end left (suc others - length rest) onward (writesOfAll (s .pools) (n .more)) final → Took file s q limit end (suc left) (suc others) p pending final
+  gather-next : (within : Bool) → ltb (suc others) (length rest) ≡ within → Took file s q limit end left (suc others - length rest) onward (writesOfAll (s .pools) (n .more)) final
+      → Took file s q limit end (suc left) (suc others) p pending final
   gather-next true e took = gather-within e
   gather-next false e took = gather-onward e took
 
 -- gathering takes as many of the pending writes as there is room for
-pub gather : (file : List ℕ) (s : Stream) → Accepted file (headerOf file) s → (q : Progress) (limit end left room : ℕ) (p : Progress) (pending : List WriteRecord) (final : List WaveSource) → At file s limit end left (p .cursor) (p .«write_index») pending (p .«wave_sources») final → Took file s q limit end left room p pending final
+pub gather : (file : List ℕ) (s : Stream) → Accepted file (headerOf file) s
+    → (q : Progress) (limit end left room : ℕ) (p : Progress) (pending : List WriteRecord) (final : List WaveSource)
+    → At file s limit end left (p .cursor) (p .«write_index») pending (p .«wave_sources») final → Took file s q limit end left room p pending final
 gather file s acc q limit end zero room p pending final at = gather-end file s q limit end room p pending final at
 gather file s acc q limit end (suc left) zero p pending final at = gather-full file s q limit end left p pending final at
 gather file s acc q limit end (suc left) (suc others) p pending final at =
     let n = next-of file s limit end left (p .cursor) (p .«write_index») pending (p .«wave_sources») final at in
     let more = at-start file s acc limit end left (n .item .next) (n .more) (n .from) (wavesAfter file (n .item .operation) p) in
-    let took = gather file s acc q limit end left (suc others - length (drop (p .«write_index») (writesOf (s .pools) (n .item .operation)))) (onward file s acc q limit end left others p pending final n) (writesOfAll (s .pools) (n .more)) final (subst (At file s limit end left (n .item .next) 0 (writesOfAll (s .pools) (n .more)) (wavesAfter file (n .item .operation) p)) (n .sources) more) in
+    let took =
+    gather file s acc q limit end left (suc others - length (drop (p .«write_index») (writesOf (s .pools) (n .item .operation))))
+    (onward file s acc q limit end left others p pending final n) (writesOfAll (s .pools) (n .more)) final
+    (subst (At file s limit end left (n .item .next) 0 (writesOfAll (s .pools) (n .more)) (wavesAfter file (n .item .operation) p)) (n .sources) more) in
     gather-next file s acc q limit end left others p pending final n (ltb (suc others) (length (drop (p .«write_index») (writesOf (s .pools) (n .item .operation))))) refl took
 
 -- OPERATIONS LEFT
 
 -- no operation is left exactly where there was room for all pending writes
-pub done-is : (file : List ℕ) (s : Stream) (limit end left cursor writes room : ℕ) (pending : List WriteRecord) (waves final : List WaveSource) → At file s limit end left cursor writes (drop room pending) waves final → eqb left 0 ≡ leb (length pending) room
+pub done-is : (file : List ℕ) (s : Stream) (limit end left cursor writes room : ℕ) (pending : List WriteRecord) (waves final : List WaveSource)
+    → At file s limit end left cursor writes (drop room pending) waves final → eqb left 0 ≡ leb (length pending) room
 done-is file s limit end zero cursor writes room pending waves final at =
     let none = ap length (nothing-left file s limit end cursor writes (drop room pending) waves final at) in
     let short : length pending ≤ room = omega (arith, length-drop room pending) in

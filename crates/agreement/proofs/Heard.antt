@@ -40,11 +40,23 @@ heardVsyncs l (v ∷ vs) = heardVsyncs (record { ended = l .ended ++ (coreWrites
 abbrev inside : List (List WriteRecord) → List ℕ → List WriteRecord → Listener
 inside ended pcm current = record { ended = ended; current = coreWrites current; pcm = played pcm current }
 
+-- and between vsyncs
+abbrev pub between : List (List WriteRecord) → List ℕ → Listener
+between ended pcm = record { ended = ended; current = []; pcm = pcm }
+
 abbrev Whole : List (Checked Played) → Type 0
 Whole answers =
-    (last : Bool) (ended : List (List WriteRecord)) (pcm : List ℕ) (current : List WriteRecord) → (last ≡ true → current ≡ []) → resting last answers ≡ true → heardAll (inside ended pcm current) answers ≡ heardVsyncs (record { ended = ended; current = []; pcm = pcm }) (recordsFrom current answers)
+    (last : Bool) (ended : List (List WriteRecord)) (pcm : List ℕ) (current : List WriteRecord) → (last ≡ true → current ≡ []) → resting last answers ≡ true
+    → heardAll (inside ended pcm current) answers ≡ heardVsyncs (between ended pcm) (recordsFrom current answers)
 
-ended-whole : (answer : Played) (more : List (Checked Played)) → Whole more → (done : Bool) (ended : List (List WriteRecord)) (pcm : List ℕ) (current : List WriteRecord) → resting done more ≡ true → heardAll (ending done (record { ended = ended; current = coreWrites current ++ coreWrites (answer .records); pcm = played (played pcm current) (answer .records) })) more ≡ heardVsyncs (record { ended = ended; current = []; pcm = pcm }) (cond done ((current ++ answer .records) ∷ recordsFrom [] more) (recordsFrom (current ++ answer .records) more))
+ended-whole : (answer : Played) (more : List (Checked Played)) → Whole more
+    → (done : Bool) (ended : List (List WriteRecord)) (pcm : List ℕ) (current : List WriteRecord) → resting done more ≡ true
+    → heardAll (ending done (record {
+      ended = ended;
+      current = coreWrites current ++ coreWrites (answer .records);
+      pcm = played (played pcm current) (answer .records);
+    })) more
+    ≡ heardVsyncs (between ended pcm) (cond done ((current ++ answer .records) ∷ recordsFrom [] more) (recordsFrom (current ++ answer .records) more))
 unfolding heardVsyncs coreWrites played
 ended-whole answer more whole true ended pcm current h =
     rw (← core-append, ← played-append) (whole true (ended ++ (coreWrites (current ++ answer .records) ∷ [])) (played pcm (current ++ answer .records)) [] (λ e. refl) h)

@@ -24,10 +24,10 @@ use Rattle.format.specs.State.{partOf, unplayed, tableOf, playerOf}
 use Rattle.format.specs.Stream.{Stream, operationsFrom, framesFrom, openingLimit}
 use Rattle.format.specs.Writes.{writesOfAll, frameWrites, closing, vsync, vsyncOperations}
 use Rattle.format.proofs.Accepted.{Accepted, HeaderOk}
+use Rattle.format.proofs.Cards.{cards-count}
 use Rattle.format.proofs.Checks.{ok-is}
 use Rattle.format.proofs.Steps.{frame-step}
 use Rattle.agreement.proofs.Gather.{own, At, at-start, onward-to}
-use Rattle.agreement.proofs.Used.{cards-count}
 
 -- WHAT HOLDS OF A STATE
 
@@ -118,7 +118,18 @@ belongs-own file s acc header p inside =
     let count : length (s .cards) ≤ 8 = omega (arith, cards-count file _ _ 0 (s .cards) (acc .cards), header .cards) in
     let opening : headerOf file .«initial_start» ≤ length file = omega (arith, acc .opening-first, acc .first-within) in
     let directory : headerOf file .«directory_offset» ≤ length file = omega (arith, acc .directory) in
-    rw (eq-eqb _ _ (acc .size), header .low, le-ltb _ _ (header .high), le-ltb _ _ count, le-ltb _ _ (inside .cursor), le-ltb _ _ opening, le-ltb _ _ (acc .first-within), le-ltb _ _ directory, le-ltb _ _ (inside .frames), le-ltb _ _ (inside .operations))
+    rw (
+      eq-eqb _ _ (acc .size),
+      header .low,
+      le-ltb _ _ (header .high),
+      le-ltb _ _ count,
+      le-ltb _ _ (inside .cursor),
+      le-ltb _ _ opening,
+      le-ltb _ _ (acc .first-within),
+      le-ltb _ _ directory,
+      le-ltb _ _ (inside .frames),
+      le-ltb _ _ (inside .operations),
+    )
 
 -- FRAMES
 
@@ -177,21 +188,37 @@ begins file s acc k frame more cursor ahead =
     let start = starts file s more cursor (drop frame (s .frames)) (length file) (ahead .later) in
     let dropped = drop-is (s .frames) frame (start .operations) (start .others) (start .is) in
     let later : drop (frame + 1) (s .frames) ≡ start .others = rw add-one (dropped .1) in
-    record { next = start .next; counts = λ p. rw (le-ltb _ _ (start .counts)); within = start .counts; at = λ waves. subst (λ (operations : List Operation). At file s (length file) (start .next) (be 2 file cursor) (cursor + 2) 0 (writesOfAll (s .pools) operations) waves (wavesByAll file (headerOf file .«directory_offset») operations waves)) (sym (dropped .0)) (at-start file s acc (length file) (start .next) (be 2 file cursor) (cursor + 2) (start .operations) (start .here) waves); ahead = record { passes = ahead .passes; once = ahead .once; counted = omega (arith, ahead .counted); vsyncs = omega (arith, ahead .vsyncs); later = start .later ∙ ap (λ (l : List (List Operation)). ok (l, length file)) (sym later) } }
+    record {
+      next = start .next;
+      counts = λ p. rw (le-ltb _ _ (start .counts));
+      within = start .counts;
+      at = λ waves. subst (λ (operations : List Operation). At file s (length file) (start .next) (be 2 file cursor) (cursor + 2) 0 (writesOfAll (s .pools) operations) waves
+          (wavesByAll file (headerOf file .«directory_offset») operations waves))
+          (sym (dropped .0)) (at-start file s acc (length file) (start .next) (be 2 file cursor) (cursor + 2) (start .operations) (start .here) waves);
+      ahead = record {
+        passes = ahead .passes;
+        once = ahead .once;
+        counted = omega (arith, ahead .counted);
+        vsyncs = omega (arith, ahead .vsyncs);
+        later = start .later ∙ ap (λ (l : List (List Operation)). ok (l, length file)) (sym later);
+      };
+    }
 
 -- a pass begins: before the first vsync, and again after the last frame of a repeating stream
 pub first-ahead : (file : List ℕ) (s : Stream) → Accepted file (headerOf file) s → Ahead file s 0 0 (headerOf file .«frame_count») (headerOf file .«frame_start»)
 first-ahead file s acc =
     record { passes = 0; once = λ e. refl; counted = omega arith; vsyncs = rw zero-mul; later = acc .frames }
 
-pub again-ahead : (file : List ℕ) (s : Stream) → Accepted file (headerOf file) s → s .repeat ≡ true → (k frame cursor : ℕ) → Ahead file s k frame 0 cursor → Ahead file s k 0 (headerOf file .«frame_count») (headerOf file .«frame_start»)
+pub again-ahead : (file : List ℕ) (s : Stream) → Accepted file (headerOf file) s → s .repeat ≡ true → (k frame cursor : ℕ) → Ahead file s k frame 0 cursor
+    → Ahead file s k 0 (headerOf file .«frame_count») (headerOf file .«frame_start»)
 again-ahead file s acc repeats k frame cursor ahead =
     record { passes = suc (ahead .passes); once = λ e. absurd (true≢false (sym repeats ∙ e)); counted = omega arith; vsyncs = rw suc-mul (omega (arith, ahead .counted, ahead .vsyncs)); later = acc .frames }
 
 -- THE WRITES OF A VSYNC
 
 -- a vsync after the first that plays a frame: which one
-frame-turn : {A : Type 0} (file : List ℕ) (s : Stream) → Accepted file (headerOf file) s → (k frame more cursor : ℕ) → Ahead file s (suc k) frame (suc more) cursor → (f : ℕ → A) (other : A) → cond (s .repeat) (f (suc k % length (s .frames))) (cond (ltb (suc k) (length (s .frames))) (f (suc k)) other) ≡ f frame
+frame-turn : {A : Type 0} (file : List ℕ) (s : Stream) → Accepted file (headerOf file) s → (k frame more cursor : ℕ) → Ahead file s (suc k) frame (suc more) cursor
+    → (f : ℕ → A) (other : A) → cond (s .repeat) (f (suc k % length (s .frames))) (cond (ltb (suc k) (length (s .frames))) (f (suc k)) other) ≡ f frame
 frame-turn {A} file s acc k frame more cursor ahead f other = go (s .repeat) refl
   where
     n : length (s .frames) ≡ headerOf file .«frame_count»
@@ -215,7 +242,9 @@ unfolding vsync
 vsync-frame file s acc k frame more cursor ahead = frame-turn file s acc k frame more cursor ahead (frameWrites s) _
 
 -- and the wave sources behind it
-pub waves-frame : (file : List ℕ) (s : Stream) → Accepted file (headerOf file) s → (k frame more cursor : ℕ) → Ahead file s (suc k) frame (suc more) cursor → (waves : List WaveSource) → waves ≡ wavesBefore file s (suc k) → wavesByAll file (headerOf file .«directory_offset») (getD (s .frames) frame []) waves ≡ wavesBefore file s (suc (suc k))
+pub waves-frame : (file : List ℕ) (s : Stream) → Accepted file (headerOf file) s → (k frame more cursor : ℕ) → Ahead file s (suc k) frame (suc more) cursor
+    → (waves : List WaveSource) → waves ≡ wavesBefore file s (suc k)
+    → wavesByAll file (headerOf file .«directory_offset») (getD (s .frames) frame []) waves ≡ wavesBefore file s (suc (suc k))
 unfolding wavesBefore vsyncOperations
 waves-frame file s acc k frame more cursor ahead waves e =
     let operations = frame-turn file s acc k frame more cursor ahead (λ (n : ℕ). getD (s .frames) n []) [] in
@@ -226,7 +255,8 @@ unfolding wavesByAll
 waves-append file directory [] b waves = refl
 waves-append file directory (operation ∷ a) b waves = waves-append file directory a b (wavesBy file directory operation waves)
 
-pub waves-first : (file : List ℕ) (s : Stream) (waves : List WaveSource) → waves ≡ wavesBefore file s 0 → wavesByAll file (headerOf file .«directory_offset») (getD (s .frames) 0 []) (wavesByAll file (headerOf file .«directory_offset») (s .opening) waves) ≡ wavesBefore file s 1
+pub waves-first : (file : List ℕ) (s : Stream) (waves : List WaveSource) → waves ≡ wavesBefore file s 0
+    → wavesByAll file (headerOf file .«directory_offset») (getD (s .frames) 0 []) (wavesByAll file (headerOf file .«directory_offset») (s .opening) waves) ≡ wavesBefore file s 1
 unfolding wavesBefore vsyncOperations
 waves-first file s waves e =
     waves-append file (headerOf file .«directory_offset») (s .opening) (getD (s .frames) 0 []) waves ∙ ap (wavesByAll file (headerOf file .«directory_offset») (s .opening ++ getD (s .frames) 0 [])) e

@@ -8,7 +8,8 @@ use Rattle.format.specs.Target.{targetOf}
 use Rattle.format.specs.Writes.{targetNumber}
 use Rattle.allowed.specs.Rules.{allowedAt}
 
-pub allowed-at : (setting : Setting) (at : ℕ) (operation : Operation) → allowed setting at operation ≡ allowedAt (setting .version) (setting .pools) (setting .poolOf) at (targetOf (setting .version) (setting .cards) (targetNumber operation)) operation
+pub allowed-at : (setting : Setting) (at : ℕ) (operation : Operation)
+    → allowed setting at operation ≡ allowedAt (setting .version) (setting .pools) (setting .poolOf) at (targetOf (setting .version) (setting .cards) (targetNumber operation)) operation
 unfolding allowed
 allowed-at setting at (Write target address value) = refl
 allowed-at setting at (Fill target address size value) = refl

@@ -21,12 +21,42 @@ use Rattle.answers.specs.declared.comparison.SgubCompared.{SgubCompared}
 -- an accepted file: number 0
 abbrev pub acceptedAs : Header → (uses : Bool) → SgubVerdict
 acceptedAs header uses =
-    record { number = 0; place = 0; version = header .version; repeats = header .repeat; «uses_si22» = uses; «card_count» = header .«card_count»; «frame_period» = header .«frame_period»; «frame_count» = header .«frame_count»; «pool_count» = header .«pool_count»; «initial_count» = header .«initial_count»; «directory_offset» = header .«directory_offset»; «initial_start» = header .«initial_start»; «frame_start» = header .«frame_start»; «total_size» = header .«total_size» }
+    record {
+      number = 0;
+      place = 0;
+      version = header .version;
+      repeats = header .repeat;
+      «uses_si22» = uses;
+      «card_count» = header .«card_count»;
+      «frame_period» = header .«frame_period»;
+      «frame_count» = header .«frame_count»;
+      «pool_count» = header .«pool_count»;
+      «initial_count» = header .«initial_count»;
+      «directory_offset» = header .«directory_offset»;
+      «initial_start» = header .«initial_start»;
+      «frame_start» = header .«frame_start»;
+      «total_size» = header .«total_size»;
+    }
 
 -- "a refusal returns number and place"
 abbrev pub refusedAs : (number place : ℕ) → SgubVerdict
 refusedAs number place =
-    record { number = number; place = place; version = 0; repeats = false; «uses_si22» = false; «card_count» = 0; «frame_period» = 0; «frame_count» = 0; «pool_count» = 0; «initial_count» = 0; «directory_offset» = 0; «initial_start» = 0; «frame_start» = 0; «total_size» = 0 }
+    record {
+      number = number;
+      place = place;
+      version = 0;
+      repeats = false;
+      «uses_si22» = false;
+      «card_count» = 0;
+      «frame_period» = 0;
+      «frame_count» = 0;
+      «pool_count» = 0;
+      «initial_count» = 0;
+      «directory_offset» = 0;
+      «initial_start» = 0;
+      «frame_start» = 0;
+      «total_size» = 0;
+    }
 
 abbrev pub verdictOn : Checked Recorded → SgubVerdict
 verdictOn (ok found) = acceptedAs (found .header) (found .«uses_si22»)

@@ -1,6 +1,6 @@
 -- The place before the first record of a call.
 use Prim.Native.Nat.{ℕ, _+_, _-_}
-use mathlib.Core.Bool.{Bool, true, false, cond, not}
+use mathlib.Core.Bool.{true, false, cond}
 use mathlib.Core.List.{List}
 use lib.Dec.{eqb, ltb}
 use lib.ListN.{length}
@@ -10,26 +10,51 @@ use Rattle.format.specs.declared.player.Part.{Part}
 use Rattle.format.specs.declared.player.Part.the-variants.{Between, Opening, Frame, Closing}
 use Rattle.format.specs.declared.player.StreamPlayer.{StreamPlayer}
 use Rattle.format.specs.Bytes.{be}
+use Rattle.format.specs.Next.{nextPart, byNext}
+use Rattle.format.specs.Pace.{closingCount}
 use Rattle.format.specs.Player.{operationsLeft}
 use Rattle.segments.specs.declared.place.Place.{Place}
 
 -- no record is taken
 abbrev pub nowhere : (total : ℕ) → Place
-nowhere total = record { closing = false; left = 0; opening = 0; after = 0; cursor = 0; done = 0; total = total; room = total }
-
--- how many closing writes there are
-abbrev pub closingCount : (synth : Bool) → ℕ
-closingCount synth = cond synth 33 32
+nowhere total = record {
+  closing = false;
+  left = 0;
+  opening = 0;
+  after = 0;
+  cursor = 0;
+  done = 0;
+  total = total;
+  room = total;
+}
 
 -- the closing writes behind so many
 abbrev pub closingFrom : StreamPlayer → (done total : ℕ) → Place
 closingFrom state done total =
-    record { closing = true; left = closingCount (state .«uses_si22») - done; opening = 0; after = 0; cursor = 0; done = 0; total = total; room = total }
+    record {
+      closing = true;
+      left = closingCount (state .«uses_si22») - done;
+      opening = 0;
+      after = 0;
+      cursor = 0;
+      done = 0;
+      total = total;
+      room = total;
+    }
 
 -- so many operations of a frame from a cursor on
 abbrev pub framePlace : (left cursor done total : ℕ) → Place
 framePlace left cursor done total =
-    record { closing = false; left = left; opening = 0; after = cursor; cursor = cursor; done = done; total = total; room = total }
+    record {
+      closing = false;
+      left = left;
+      opening = 0;
+      after = cursor;
+      cursor = cursor;
+      done = done;
+      total = total;
+      room = total;
+    }
 
 -- the frame whose count stands at a cursor
 unfoldable pub frameAt : List ℕ → (cursor total : ℕ) → Place
@@ -40,16 +65,24 @@ unfoldable pub openingPlace : List ℕ → Header → (left cursor done total : 
 openingPlace file header left cursor done total =
     let frame = frameAt file (header .«frame_start») total in
     cond (eqb left 0) frame
-    (record { closing = false; left = left + frame .left; opening = left; after = frame .cursor; cursor = cursor; done = done; total = total; room = total })
+    (record {
+      closing = false;
+      left = left + frame .left;
+      opening = left;
+      after = frame .cursor;
+      cursor = cursor;
+      done = done;
+      total = total;
+      room = total;
+    })
 
--- "the first plays opening and frame 1 together; after the last frame, a repeating file plays frame 1 again without the opening;
--- another plays the closing writes"
+-- between vsyncs the next one begins
 unfoldable pub betweenPlace : List ℕ → StreamPlayer → (total : ℕ) → Place
 betweenPlace file state total =
-    cond (not (state .progress .initialized)) (openingPlace file (state .header) (state .header .«initial_count») (state .header .«initial_start») 0 total)
-    (cond (ltb (state .progress .«frame_index») (state .header .«frame_count»)) (frameAt file (state .progress .cursor) total)
-    (cond (state .header .repeat) (frameAt file (state .header .«frame_start») total)
-    (closingFrom state 0 total)))
+    let header = state .header in
+    byNext (nextPart header (state .progress)) (openingPlace file header (header .«initial_count») (header .«initial_start») 0 total)
+    (λ (place frame : ℕ). frameAt file place total)
+    (closingFrom state 0 total)
 
 -- the part that is under way goes on
 abbrev pub partPlace : List ℕ → StreamPlayer → (total : ℕ) → Part → Place

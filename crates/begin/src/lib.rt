@@ -1,16 +1,21 @@
 // Where the records of a call begin.
+use big_endian::passes;
 use big_endian::read_u16;
+use format::COUNT_SIZE;
 use format::Header;
 use format::Part;
 use format::StreamPlayer;
-use pace::operations_left;
 use segments::Place;
+use state::closing_count;
+use state::next_part;
+use state::opening_from;
+use state::operations_left;
 use state::part_of;
-use writes::passes;
 ghost use mathlib.Core.Path.{_≡_};
 ghost use Prim.Native.Nat.{_-_, _<_};
+ghost use Rattle.format.specs.Pace.{closingCount};
 ghost use Rattle.format.specs.State.{partOf};
-ghost use Rattle.begin.specs.Begin.{nowhere, closingCount, closingFrom, framePlace, frameAt, openingPlace, betweenPlace, partPlace, firstPlace};
+ghost use Rattle.begin.specs.Begin.{nowhere, closingFrom, framePlace, frameAt, openingPlace, betweenPlace, partPlace, firstPlace};
 
 // No record is taken.
 fn nowhere(total: usize) -> Place
@@ -28,25 +33,15 @@ fn nowhere(total: usize) -> Place
     }
 }
 
-// How many closing writes there are.
-fn closing_count(uses_si22: bool) -> usize
-    ensures { λ r. ⌜ r ≡ closingCount «uses_si22» ⌝ }
-{
-    if uses_si22 {
-        return 33;
-    }
-    32
-}
-
-// How many of them are left behind so many.
+// How many closing writes are left behind so many.
 fn closing_left(uses_si22: bool, done: u32) -> usize
     ensures { λ r. ⌜ r ≡ closingCount «uses_si22» - done ⌝ }
 {
     let count = closing_count(uses_si22);
-    if count < done as usize {
+    if count < done {
         return 0;
     }
-    count - done as usize
+    (count - done) as usize
 }
 
 // The closing writes behind so many.
@@ -85,10 +80,15 @@ fn frame_place(left: usize, cursor: usize, done: u32, total: usize) -> Place
 fn frame_at(file: &[u8], cursor: usize, total: usize) -> Place
     ensures { λ r. ⌜ (r ≡ frameAt (now (file .entry)) cursor total) × (r .left < 65536) ⌝ }
 {
-    if passes(file.len(), cursor, 2) {
+    if passes(file.len(), cursor, COUNT_SIZE) {
         return nowhere(total);
     }
-    frame_place(read_u16(file, cursor) as usize, cursor + 2, 0, total)
+    frame_place(
+        read_u16(file, cursor) as usize,
+        cursor + COUNT_SIZE,
+        0,
+        total,
+    )
 }
 
 // So many operations of the opening from a cursor on, and then the first frame.
@@ -118,28 +118,19 @@ fn opening_place(
     }
 }
 
-// The first vsync begins with the opening; after the last frame a repeating file begins with its first frame again, and another plays
-// the closing writes.
+// Between vsyncs the next one begins.
 fn between_place(file: &[u8], state: StreamPlayer, total: usize) -> Place
     ensures { λ r. ⌜ r ≡ betweenPlace (now (file .entry)) state total ⌝ }
 {
     let header = state.header;
     let progress = state.progress;
-    if !progress.initialized {
-        return opening_place(
-            file,
-            header,
-            header.initial_count,
-            header.initial_start as usize,
-            0,
-            total,
-        );
+    let next = next_part(header, progress);
+    if next.part == Part::OPENING {
+        let at = opening_from(header);
+        return opening_place(file, header, at.operation_count, at.cursor, 0, total);
     }
-    if progress.frame_index < header.frame_count {
-        return frame_at(file, progress.cursor, total);
-    }
-    if header.repeat {
-        return frame_at(file, header.frame_start, total);
+    if next.part == Part::FRAME {
+        return frame_at(file, next.place, total);
     }
     closing_from(state, 0, total)
 }
@@ -150,7 +141,7 @@ fn part_place(file: &[u8], state: StreamPlayer, total: usize) -> Place
 {
     let header = state.header;
     let progress = state.progress;
-    let left = operations_left(progress);
+    let left = operations_left(progress.operation_index, progress.operation_count);
     let done = progress.write_index;
     match part_of(progress.part) {
         Part::Between => between_place(file, state, total),

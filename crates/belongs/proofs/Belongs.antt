@@ -23,11 +23,27 @@ pub foreign-is : (state : StreamPlayer) (file : List ℕ) → refuse 25 0 (forei
 unfolding foreignTo belongs
 foreign-is state file = sym (rw (either 25 0, either 25 0, either 25 0))
 
--- a state that belongs to the file has no more operations done than there are
-pub own-operations : (size : ℕ) (header : Header) (cards : ℕ) (p : Progress) → foreignTo size header cards p ≡ false → p .«operation_index» ≤ p .«operation_count»
-unfolding foreignTo
-own-operations size header cards p own =
-    let recorded = or-false (not (eqb size (header .«total_size»))) _ own .1 in
-    let places = or-false (eqb (header .version) 0 || ltb 4 (header .version) || ltb 8 cards) _ recorded .1 in
-    let counters = or-false (ltb size (p .cursor) || ltb size (header .«initial_start») || ltb size (header .«frame_start») || ltb size (header .«directory_offset»)) _ places .1 in
-    ltb-false _ _ (or-false (ltb (header .«frame_count») (p .«frame_index»)) _ counters .1)
+-- a state that belongs to the file
+module _ (size : ℕ) (header : Header) (cards : ℕ) (p : Progress) (own : foreignTo size header cards p ≡ false) where
+  abbrev before : Bool
+  before = ltb size (p .cursor) || ltb size (header .«initial_start»)
+
+  abbrev pastCounter : Bool
+  pastCounter = ltb (header .«frame_count») (p .«frame_index») || ltb (p .«operation_count») (p .«operation_index»)
+
+  none-past : ((before || ltb size (header .«frame_start») || ltb size (header .«directory_offset»)) ≡ false) × (pastCounter ≡ false)
+  unfolding foreignTo
+  none-past =
+      let recorded = or-false (not (eqb size (header .«total_size»))) _ own .1 in
+      let places = or-false (eqb (header .version) 0 || ltb 4 (header .version) || ltb 8 cards) _ recorded .1 in
+      or-false (before || ltb size (header .«frame_start») || ltb size (header .«directory_offset»)) _ places
+
+  -- has no more operations done than there are
+  pub own-operations : p .«operation_index» ≤ p .«operation_count»
+  own-operations = ltb-false _ _ (or-false (ltb (header .«frame_count») (p .«frame_index»)) _ (none-past .1) .1)
+
+  -- and frames that start in the file
+  pub own-frames : header .«frame_start» ≤ size
+  own-frames =
+      let first = or-false (before || ltb size (header .«frame_start»)) _ (none-past .0) .0 in
+      ltb-false _ _ (or-false before (ltb size (header .«frame_start»)) first .1)

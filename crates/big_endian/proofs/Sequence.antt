@@ -15,8 +15,10 @@ pub put-append : (a b : List ℕ) (at : ℕ) (buffer : List ℕ) → at + length
 put-append a b at buffer h =
     let size = length-append a b in
     let room : at + length a ≤ length buffer = omega arith in
-    let front : take (at + length a) (put a at buffer) ≡ take at buffer ++ a = rw (put-fits a at buffer room) (take-at (take at buffer ++ a) (drop (at + length a) buffer) (at + length a) (rw (length-append, length-take-le at buffer (omega arith)))) in
-    let back : drop (at + length a + length b) (put a at buffer) ≡ drop (at + length (a ++ b)) buffer = sym (drop-drop (length b) (at + length a) (put a at buffer)) ∙ ap (drop (length b)) (put-behind a at buffer) ∙ drop-drop (length b) (at + length a) buffer ∙ rw (size, add-assoc) in
+    let front : take (at + length a) (put a at buffer) ≡ take at buffer ++ a =
+    rw (put-fits a at buffer room) (take-at (take at buffer ++ a) (drop (at + length a) buffer) (at + length a) (rw (length-append, length-take-le at buffer (omega arith)))) in
+    let back : drop (at + length a + length b) (put a at buffer) ≡ drop (at + length (a ++ b)) buffer =
+    sym (drop-drop (length b) (at + length a) (put a at buffer)) ∙ ap (drop (length b)) (put-behind a at buffer) ∙ drop-drop (length b) (at + length a) buffer ∙ rw (size, add-assoc) in
     put-fits (a ++ b) at buffer h
     ∙ sym (put-fits b (at + length a) (put a at buffer) (omega (arith, length-put a at buffer)) ∙ rw (front, back) (simp append-assoc))
 
@@ -27,7 +29,8 @@ put-prepend a b at buffer h =
     let mid = at + length a in
     let room : mid + length b ≤ length buffer = omega arith in
     let front : take at (put b mid buffer) ≡ take at buffer = sym (take-take at mid (put b mid buffer) (omega arith)) ∙ ap (take at) (put-before b mid buffer) ∙ take-take at mid buffer (omega arith) in
-    let back : drop mid (put b mid buffer) ≡ b ++ drop (mid + length b) buffer = rw (put-fits b mid buffer room, append-assoc) (drop-at (take mid buffer) (b ++ drop (mid + length b) buffer) mid (length-take-le mid buffer (omega arith))) in
+    let back : drop mid (put b mid buffer) ≡ b ++ drop (mid + length b) buffer =
+    rw (put-fits b mid buffer room, append-assoc) (drop-at (take mid buffer) (b ++ drop (mid + length b) buffer) mid (length-take-le mid buffer (omega arith))) in
     put-fits (a ++ b) at buffer h
     ∙ sym (put-fits a at (put b mid buffer) (omega (arith, length-put b mid buffer)) ∙ rw (front, back, size) (simp (append-assoc, add-assoc)))
 

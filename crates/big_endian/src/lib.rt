@@ -5,7 +5,8 @@ use loads::load_3;
 use loads::load_4;
 use loads::wide;
 ghost use mathlib.Core.Path.{_≡_};
-ghost use Prim.Native.Nat.{_+_, _*_, _^_, _≤_, _<_};
+ghost use Prim.Native.Nat.{_+_, _*_, _^_, _≤_, _<_, min};
+ghost use lib.Dec.{ltb};
 ghost use lib.ListN.{length};
 ghost use Rattle.format.specs.Bytes.{byte, be, part};
 pub use puts::put_u8;
@@ -85,4 +86,40 @@ pub fn window(file: &[u8], at: usize) -> &[u8]
     ensures { λ r. ⌜ now r ≡ part (now (file .entry)) at 16 ⌝ }
 {
     &file[at..at + 16]
+}
+
+// The bytes from a place on that hold every operation, or what is left of the file where it has fewer.
+pub fn item_bytes(file: &[u8], at: usize) -> &[u8]
+    ensures { λ r. ⌜ now r ≡ part (now (file .entry)) at 16 ⌝ }
+{
+    if file.len() < at {
+        return &file[0..0];
+    }
+    if file.len() - at < 16 {
+        return &file[at..];
+    }
+    window(file, at)
+}
+
+// The smaller of two numbers.
+pub fn smaller(a: usize, b: usize) -> usize
+    ensures { λ r. ⌜ (r ≡ min a b) × (r ≤ a) × (r ≤ b) ⌝ }
+{
+    if a < b {
+        return a;
+    }
+    b
+}
+
+// Whether so many bytes, or elements, from a place on pass a size.
+pub fn passes(size: usize, at: usize, count: usize) -> bool
+    ensures { λ r. ⌜ r ≡ ltb size (at + count) ⌝ }
+{
+    if size < at {
+        return true;
+    }
+    if size - at < count {
+        return true;
+    }
+    false
 }

@@ -24,7 +24,8 @@ cardRefused file i least card = ltb (length file) (cardPlace i + 32) || cardWron
 
 -- one card, then the others
 pub cards-step : (file : List ℕ) (count i least : ℕ) (seen : List CardRequirement) → i < count
-    → cardsAfter file count i least seen ≡ cond (cardRefused file i least (cardAt file (cardPlace i))) (reading (refused 7 (cardPlace i))) (cardsAfter file count (i + 1) (byte file (cardPlace i) + 1) (seen ++ (cardAt file (cardPlace i) ∷ [])))
+    → cardsAfter file count i least seen
+    ≡ cond (cardRefused file i least (cardAt file (cardPlace i))) (reading (refused 7 (cardPlace i))) (cardsAfter file count (i + 1) (byte file (cardPlace i) + 1) (seen ++ (cardAt file (cardPlace i) ∷ [])))
 unfolding cardsFrom
 cards-step file count i least seen h =
     let card : CardRequirement = cardAt file (cardPlace i) in
@@ -32,9 +33,12 @@ cards-step file count i least seen h =
     let next : cardPlace i + 32 ≡ cardPlace (i + 1) = omega arith in
     rw left
     (go card (cardRefused file i least card) (cardsFrom file (count - (i + 1)) (cardPlace i + 32) (byte file (cardPlace i) + 1))
-    ∙ ap (λ (place : ℕ). cond (cardRefused file i least card) (reading (refused 7 (cardPlace i))) (reading (mapped (λ (more : List CardRequirement). seen ++ (card ∷ []) ++ more) (cardsFrom file (count - (i + 1)) place (byte file (cardPlace i) + 1))))) next)
+    ∙ ap (λ (place : ℕ). cond (cardRefused file i least card) (reading (refused 7 (cardPlace i)))
+    (reading (mapped (λ (more : List CardRequirement). seen ++ (card ∷ []) ++ more) (cardsFrom file (count - (i + 1)) place (byte file (cardPlace i) + 1))))) next)
   where
-    go : (card : CardRequirement) (wrong : Bool) (rest : Checked (List CardRequirement)) → reading (mapped (λ (more : List CardRequirement). seen ++ more) (refuse 7 (cardPlace i) wrong >> (rest >>= λ cards. ok (card ∷ cards)))) ≡ cond wrong (reading (refused 7 (cardPlace i))) (reading (mapped (λ (more : List CardRequirement). seen ++ (card ∷ []) ++ more) rest))
+    go : (card : CardRequirement) (wrong : Bool) (rest : Checked (List CardRequirement))
+        → reading (mapped (λ (more : List CardRequirement). seen ++ more) (refuse 7 (cardPlace i) wrong >> (rest >>= λ cards. ok (card ∷ cards))))
+        ≡ cond wrong (reading (refused 7 (cardPlace i))) (reading (mapped (λ (more : List CardRequirement). seen ++ (card ∷ []) ++ more) rest))
     go card true rest = refl
     go card false (ok cards) = ap (λ (all : List CardRequirement). reading (ok all)) (sym (append-snoc seen card cards))
     go card false (refused number place) = refl
@@ -72,11 +76,13 @@ fine-card file at i least card rising e =
     (omega (arith, fine .rising), one-card-fine card (fine .rules) .slot-range)
 
 -- rule 7 refuses the card that `i` counts
-pub seen-wrong : (file : List ℕ) (count : ℕ) (table : List CardRequirement) (least i : ℕ) → i < count → Seen file count table least i → cardRefused file i least (cardAt file (cardPlace i)) ≡ true → reading (cardsFrom file count 48 0) ≡ reading (refused 7 (cardPlace i))
+pub seen-wrong : (file : List ℕ) (count : ℕ) (table : List CardRequirement) (least i : ℕ) → i < count → Seen file count table least i
+    → cardRefused file i least (cardAt file (cardPlace i)) ≡ true → reading (cardsFrom file count 48 0) ≡ reading (refused 7 (cardPlace i))
 seen-wrong file count table least i more s wrong = rw (s .rest, cards-step file count i least (s .seen) more, wrong)
 
 -- or the card is put into the table
-pub seen-next : (file : List ℕ) (count : ℕ) (table : List CardRequirement) (least i : ℕ) → i < count → Seen file count table least i → cardPlace i + 32 ≤ length file → cardWrong file (cardPlace i) least (cardAt file (cardPlace i)) ≡ false
+pub seen-next : (file : List ℕ) (count : ℕ) (table : List CardRequirement) (least i : ℕ) → i < count → Seen file count table least i → cardPlace i + 32 ≤ length file
+    → cardWrong file (cardPlace i) least (cardAt file (cardPlace i)) ≡ false
     → Seen file count (set table i (cardAt file (cardPlace i))) (byte file (cardPlace i) + 1) (i + 1)
 seen-next file count table least i more s room fine =
     let card : CardRequirement = cardAt file (cardPlace i) in
@@ -92,7 +98,8 @@ seen-next file count table least i more s room fine =
     }
 
 -- every card is seen
-pub seen-all : (file : List ℕ) (count : ℕ) (table : List CardRequirement) (least i : ℕ) → i ≡ count → Seen file count table least i → _≡_ {A = Reading} (ok tt, record { cards = table; count = count }) (reading (cardsFrom file count 48 0))
+pub seen-all : (file : List ℕ) (count : ℕ) (table : List CardRequirement) (least i : ℕ) → i ≡ count → Seen file count table least i
+    → _≡_ {A = Reading} (ok tt, record { cards = table; count = count }) (reading (cardsFrom file count 48 0))
 unfolding tableOf
 seen-all file count table least i e s =
     let all : count ≡ length (s .seen) = omega (arith, s .counted) in

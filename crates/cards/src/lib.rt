@@ -2,6 +2,8 @@
 use card_entry::read_card;
 use card_rules::card_wrong;
 pub use card_rules::one_card_wrong;
+use format::CARD_SIZE;
+use format::CARDS_HEADER_SIZE;
 use format::CardTable;
 use format::Refusal;
 use format::Rule;
@@ -43,8 +45,8 @@ pub fn parse_v4_cards(file: &[u8], count: u8) -> CardsRead
     let mut i = 0;
     let total = count as usize;
     while i < total {
-        let at = 48 + i * 32;
-        if file.len() < at + 32 {
+        let at = CARDS_HEADER_SIZE + i * CARD_SIZE;
+        if file.len() < at + CARD_SIZE {
             return refused_card(at);
         }
         let card = read_card(file, at);

@@ -1,5 +1,5 @@
 -- What the comparison answers, by what is known of the two files and the lengths of the images.
-use Prim.Native.Nat.{ℕ, _+_, _*_, _≤_, _<_}
+use Prim.Native.Nat.{ℕ, _≤_, _<_}
 use mathlib.Core.Path.{_≡_, refl, sym, ap, ap₂, subst, _∙_}
 use mathlib.Core.Bool.{Bool, true, false, Bool·beq}
 use mathlib.Core.List.{List, _++_}
@@ -13,6 +13,7 @@ use Rattle.format.specs.Checked.{Checked, ok, refused, refuse, mapped}
 use Rattle.format.specs.Compare.{Compared, agreed, refusedFile, inFile, readVersion, compared, agree, played, imageOf, imageAfter}
 use Rattle.format.specs.Header.{headerOf}
 use Rattle.format.specs.Lent.{stored}
+use Rattle.format.specs.Size.{pcmSize}
 use Rattle.format.specs.Stream.{Stream, read}
 use Rattle.format.specs.Writes.{openingWrites}
 use Rattle.format.proofs.Accepted.{Accepted, accepted}
@@ -20,8 +21,8 @@ use Rattle.format.proofs.Checks.{ok-is, refused-not-ok}
 use Rattle.format.proofs.Compared.{version-read, reads-version}
 use Rattle.master.proofs.Master.{IsMaster, is-master}
 use Rattle.image_store.proofs.Image.{played-length}
-use Rattle.compare.specs.Accepted.{masterDrawn, otherDrawn, agreeBy}
-use Rattle.compare.specs.Answer.{versionHeader}
+use Rattle.compare.specs.Accepted.{FramesWithin, masterDrawn, otherDrawn, agreeBy, Drawn}
+use Rattle.compare.specs.Answer.{versionHeader, ComparedWith}
 use Rattle.compare.proofs.Streams.{agree-is, master-image, other-image}
 
 pub beq-true : (b : Bool) → b ≡ Bool·beq true b
@@ -77,48 +78,62 @@ pub image-stays : (answer : Compared) (found : Checked Stream) (image : List ℕ
 unfolding imageAfter
 image-stays answer found image file number place e = ap (λ (x : Compared). imageAfter x found image) e
 
+-- so it is the answer, and both images stay
+pub refused-with : (master other image image′ : List ℕ) (answer : Compared) (file number place : ℕ) → answer ≡ refusedFile file number place
+    → compared master other (length image) (length image′) ≡ refusedFile file number place → ComparedWith answer master other image image′ image image′
+refused-with master other image image′ answer file number place is e =
+    (is ∙ sym e, sym (image-stays _ (read master) image _ _ _ e), sym (image-stays _ (read other) image′ _ _ _ e))
+
+-- the comparison behind a file that was read
+abbrev rest : Stream → Checked Stream → Bool → Bool → Compared
+rest s r short short′ = inFile 2 r λ s′. inFile 1 (refuse 24 0 short) λ _. inFile 2 (refuse 24 0 short′) λ _. agreed (agree s s′)
+
 module _ (master other : List ℕ) (image image′ : ℕ) where
+  abbrev whole-rest : Checked Stream → Compared
+  whole-rest found = inFile 1 found λ s. rest s (readVersion 2 other) (ltb image pcmSize) (ltb image′ pcmSize)
+
   pub master-refused : (number place : ℕ) → versionHeader 1 master ≡ refused number place → compared master other image image′ ≡ refusedFile 1 number place
   unfolding compared
-  master-refused number place e =
-      ap (λ (r : Checked Stream). inFile 1 r λ s. inFile 2 (readVersion 2 other) λ s′. inFile 1 (refuse 24 0 (ltb image 1048576)) λ _. inFile 2 (refuse 24 0 (ltb image′ 1048576)) λ _. agreed (agree s s′)) (gone 1 master number place e)
+  master-refused number place e = ap whole-rest (gone 1 master number place e)
 
-  abbrev rest : Stream → Checked Stream → Bool → Bool → Compared
-  rest s r short short′ = inFile 2 r λ s′. inFile 1 (refuse 24 0 short) λ _. inFile 2 (refuse 24 0 short′) λ _. agreed (agree s s′)
-
-  behind-master : (s : Stream) → readVersion 1 master ≡ ok s → compared master other image image′ ≡ rest s (readVersion 2 other) (ltb image 1048576) (ltb image′ 1048576)
+  behind-master : (s : Stream) → readVersion 1 master ≡ ok s → compared master other image image′ ≡ rest s (readVersion 2 other) (ltb image pcmSize) (ltb image′ pcmSize)
   unfolding compared
-  behind-master s e =
-      ap (λ (r : Checked Stream). inFile 1 r λ s. inFile 2 (readVersion 2 other) λ s′. inFile 1 (refuse 24 0 (ltb image 1048576)) λ _. inFile 2 (refuse 24 0 (ltb image′ 1048576)) λ _. agreed (agree s s′)) e
+  behind-master s e = ap whole-rest e
 
   pub other-refused : (header : Header) → Has 1 master header → (number place : ℕ) → versionHeader 2 other ≡ refused number place → compared master other image image′ ≡ refusedFile 2 number place
   other-refused header m number place e =
-      behind-master (m .stream) (m .here) ∙ ap (λ (r : Checked Stream). rest (m .stream) r (ltb image 1048576) (ltb image′ 1048576)) (gone 2 other number place e)
+      behind-master (m .stream) (m .here) ∙ ap (λ (r : Checked Stream). rest (m .stream) r (ltb image pcmSize) (ltb image′ pcmSize)) (gone 2 other number place e)
 
   module _ (header header′ : Header) (m : Has 1 master header) (o : Has 2 other header′) where
-    behind-both : (short short′ : Bool) → ltb image 1048576 ≡ short → ltb image′ 1048576 ≡ short′ → compared master other image image′ ≡ rest (m .stream) (ok (o .stream)) short short′
+    behind-both : (short short′ : Bool) → ltb image pcmSize ≡ short → ltb image′ pcmSize ≡ short′ → compared master other image image′ ≡ rest (m .stream) (ok (o .stream)) short short′
     behind-both short short′ e e′ =
         behind-master (m .stream) (m .here)
-        ∙ ap (λ (r : Checked Stream). rest (m .stream) r (ltb image 1048576) (ltb image′ 1048576)) (o .here)
+        ∙ ap (λ (r : Checked Stream). rest (m .stream) r (ltb image pcmSize) (ltb image′ pcmSize)) (o .here)
         ∙ ap₂ (rest (m .stream) (ok (o .stream))) e e′
 
-    pub master-short : image < 1048576 → compared master other image image′ ≡ refusedFile 1 24 0
-    master-short h = behind-both true (ltb image′ 1048576) (lt-ltb image 1048576 h) refl
+    master-short : image < pcmSize → compared master other image image′ ≡ refusedFile 1 24 0
+    master-short h = behind-both true (ltb image′ pcmSize) (lt-ltb image pcmSize h) refl
 
-    pub other-short : 1048576 ≤ image → image′ < 1048576 → compared master other image image′ ≡ refusedFile 2 24 0
-    other-short h h′ = behind-both false true (le-ltb image 1048576 h) (lt-ltb image′ 1048576 h′)
+    other-short : pcmSize ≤ image → image′ < pcmSize → compared master other image image′ ≡ refusedFile 2 24 0
+    other-short h h′ = behind-both false true (le-ltb image pcmSize h) (lt-ltb image′ pcmSize h′)
 
-    pub both-agreed : 1048576 ≤ image → 1048576 ≤ image′ → compared master other image image′ ≡ agreed (agree (m .stream) (o .stream))
-    both-agreed h h′ = behind-both false false (le-ltb image 1048576 h) (le-ltb image′ 1048576 h′)
+    both-agreed : pcmSize ≤ image → pcmSize ≤ image′ → compared master other image image′ ≡ agreed (agree (m .stream) (o .stream))
+    both-agreed h h′ = behind-both false false (le-ltb image pcmSize h) (le-ltb image′ pcmSize h′)
 
 -- TWO ACCEPTED FILES
 
 abbrev other-accepted : (other : List ℕ) (header : Header) → (o : Has 2 other header) → Accepted other header (o .stream)
 other-accepted other header o = subst (λ (h : Header). Accepted other h (o .stream)) (o .header-is) (accepted other (o .stream) (o .reads) .0)
 
+-- two files that are accepted and have their versions
+abbrev Headers : (master other : List ℕ) → Header → Header → Type 0
+Headers master other header header′ = (versionHeader 1 master ≡ ok header) × (versionHeader 2 other ≡ ok header′)
+
 -- their places are small
-pub fits : (master other : List ℕ) (header header′ : Header) → Has 1 master header → Has 2 other header′ → (20 + header .«initial_count» * 5 ≤ 0xE00000) × (header′ .«frame_start» ≤ 0xE00000)
-fits master other header header′ m o =
+pub fits : (master other : List ℕ) (header header′ : Header) → Headers master other header header′ → FramesWithin header header′
+fits master other header header′ both =
+    let m = has 1 master header (both .0) in
+    let o = has 2 other header′ (both .1) in
     let lies = is-master master (m .stream) (m .reads) (m .is) .lies in
     let acc = other-accepted other header′ o in
     let count : headerOf master .«initial_count» ≡ header .«initial_count» = ap (λ (h : Header). h .«initial_count») (m .header-is) in
@@ -138,42 +153,66 @@ module _ (master other : List ℕ) (header header′ : Header) (m : Has 1 master
   is : IsMaster master (m .stream)
   is = is-master master (m .stream) (m .reads) (m .is)
 
-  agree-by : agree (m .stream) (o .stream) ≡ agreeBy master header other header′ (masterDrawn 1048576 master header) (otherDrawn 1048576 other header′)
+  agree-by : agree (m .stream) (o .stream) ≡ agreeBy master header other header′ (masterDrawn pcmSize master header) (otherDrawn pcmSize other header′)
   agree-by =
       agree-is other header′ (o .stream) (other-accepted other header′ o) two master (m .stream) is
-      ∙ ap (λ (h : Header). agreeBy master h other header′ (masterDrawn 1048576 master h) (otherDrawn 1048576 other header′)) (m .header-is)
+      ∙ ap (λ (h : Header). agreeBy master h other header′ (masterDrawn pcmSize master h) (otherDrawn pcmSize other header′)) (m .header-is)
 
-  front : (s : Stream) (lent : List ℕ) (drawn : List ℕ) → imageOf s ≡ drawn → stored (imageOf s) lent ≡ drawn ++ drop 1048576 lent
-  front s lent drawn e = front-of 1048576 (imageOf s) lent drawn (played-size 1048576 0x80 (openingWrites s)) e
+  front : (s : Stream) (lent : List ℕ) (drawn : List ℕ) → imageOf s ≡ drawn → stored (imageOf s) lent ≡ drawn ++ drop pcmSize lent
+  front s lent drawn e = front-of pcmSize (imageOf s) lent drawn (played-size pcmSize 0x80 (openingWrites s)) e
 
   after : (answer : Compared) (passed : Bool) (s : Stream) (found : Checked Stream) (lent : List ℕ) → answer ≡ agreed passed → found ≡ ok s → imageAfter answer found lent ≡ stored (imageOf s) lent
   unfolding imageAfter
   after answer passed s found lent e f = ap₂ (λ (x : Compared) (r : Checked Stream). imageAfter x r lent) e f
 
-  module _ (image image′ : List ℕ) (room : 1048576 ≤ length image) (room′ : 1048576 ≤ length image′) where
+  module _ (image image′ : List ℕ) (room : pcmSize ≤ length image) (room′ : pcmSize ≤ length image′) where
     agreed-is : compared master other (length image) (length image′) ≡ agreed (agree (m .stream) (o .stream))
     agreed-is = both-agreed master other (length image) (length image′) header header′ m o room room′
 
-    master-drawn : imageAfter (compared master other (length image) (length image′)) (read master) image ≡ masterDrawn 1048576 master header ++ drop 1048576 image
+    master-drawn : imageAfter (compared master other (length image) (length image′)) (read master) image ≡ masterDrawn pcmSize master header ++ drop pcmSize image
     master-drawn =
         after _ _ (m .stream) (read master) image agreed-is (m .reads)
-        ∙ front (m .stream) image (masterDrawn 1048576 master header) (master-image other header′ (o .stream) (other-accepted other header′ o) two master (m .stream) is ∙ ap (masterDrawn 1048576 master) (m .header-is))
+        ∙ front (m .stream) image (masterDrawn pcmSize master header)
+        (master-image other header′ (o .stream) (other-accepted other header′ o) two master (m .stream) is ∙ ap (masterDrawn pcmSize master) (m .header-is))
 
-    other-drawn : imageAfter (compared master other (length image) (length image′)) (read other) image′ ≡ otherDrawn 1048576 other header′ ++ drop 1048576 image′
+    other-drawn : imageAfter (compared master other (length image) (length image′)) (read other) image′ ≡ otherDrawn pcmSize other header′ ++ drop pcmSize image′
     other-drawn =
         after _ _ (o .stream) (read other) image′ agreed-is (o .reads)
-        ∙ front (o .stream) image′ (otherDrawn 1048576 other header′) (other-image other header′ (o .stream) (other-accepted other header′ o) two)
+        ∙ front (o .stream) image′ (otherDrawn pcmSize other header′) (other-image other header′ (o .stream) (other-accepted other header′ o) two)
 
     -- the answer and the images that were drawn, each in a part as long as an image
-    pub whole : (size : ℕ) (part part′ e e′ : List ℕ) (r : Bool) → size ≡ 1048576 → length part ≡ size → length part′ ≡ size
-        → e ≡ masterDrawn (length part) master header → e′ ≡ otherDrawn (length part′) other header′ → r ≡ agreeBy master header other header′ e e′
-        → (compared master other (length image) (length image′) ≡ agreed r)
-        × (e ++ drop size image ≡ imageAfter (compared master other (length image) (length image′)) (read master) image)
-        × (e′ ++ drop size image′ ≡ imageAfter (compared master other (length image) (length image′)) (read other) image′)
-    whole size part part′ e e′ r is-size long long′ is-drawn is-drawn′ is-agreed =
-        let drawn : e ≡ masterDrawn 1048576 master header = is-drawn ∙ ap (λ (n : ℕ). masterDrawn n master header) (long ∙ is-size) in
-        let drawn′ : e′ ≡ otherDrawn 1048576 other header′ = is-drawn′ ∙ ap (λ (n : ℕ). otherDrawn n other header′) (long′ ∙ is-size) in (
-          agreed-is ∙ ap agreed (agree-by ∙ ap₂ (agreeBy master header other header′) (sym drawn) (sym drawn′) ∙ sym is-agreed),
+    whole : (size : ℕ) (part part′ e e′ : List ℕ) (passed : Bool) → size ≡ pcmSize → length part ≡ size → length part′ ≡ size
+        → Drawn passed master header other header′ part part′ e e′ → (answer : Compared) → answer ≡ agreed passed
+        → ComparedWith answer master other image image′ (e ++ drop size image) (e′ ++ drop size image′)
+    whole size part part′ e e′ passed is-size long long′ is answer says =
+        let drawn : e ≡ masterDrawn pcmSize master header = is .1 ∙ ap (λ (n : ℕ). masterDrawn n master header) (long ∙ is-size) in
+        let drawn′ : e′ ≡ otherDrawn pcmSize other header′ = is .2 ∙ ap (λ (n : ℕ). otherDrawn n other header′) (long′ ∙ is-size) in
+        let agrees = agree-by ∙ ap₂ (agreeBy master header other header′) (sym drawn) (sym drawn′) ∙ sym (is .0) in (
+          says ∙ sym (agreed-is ∙ ap agreed agrees),
           ap₂ (λ (l : List ℕ) (n : ℕ). l ++ drop n image) drawn is-size ∙ sym master-drawn,
           ap₂ (λ (l : List ℕ) (n : ℕ). l ++ drop n image′) drawn′ is-size ∙ sym other-drawn,
         )
+
+-- WITH THE IMAGES THAT ARE LENT
+
+module _ (master other : List ℕ) (header header′ : Header) (both : Headers master other header header′) (image image′ : List ℕ) where
+  abbrev m : Has 1 master header
+  m = has 1 master header (both .0)
+
+  abbrev o : Has 2 other header′
+  o = has 2 other header′ (both .1)
+
+  pub with-short-master : length image < pcmSize → (answer : Compared) → answer ≡ refusedFile 1 24 0 → ComparedWith answer master other image image′ image image′
+  with-short-master h answer is =
+      refused-with master other image image′ answer 1 24 0 is (master-short master other (length image) (length image′) header header′ m o h)
+
+  pub with-short-other : pcmSize ≤ length image → length image′ < pcmSize → (answer : Compared) → answer ≡ refusedFile 2 24 0
+      → ComparedWith answer master other image image′ image image′
+  with-short-other h h′ answer is =
+      refused-with master other image image′ answer 2 24 0 is (other-short master other (length image) (length image′) header header′ m o h h′)
+
+  -- each drawn in a part as long as an image
+  pub with-images : (room : pcmSize ≤ length image) (room′ : pcmSize ≤ length image′) (size : ℕ) (part part′ e e′ : List ℕ) (passed : Bool)
+      → size ≡ pcmSize → length part ≡ size → length part′ ≡ size → Drawn passed master header other header′ part part′ e e′
+      → (answer : Compared) → answer ≡ agreed passed → ComparedWith answer master other image image′ (e ++ drop size image) (e′ ++ drop size image′)
+  with-images = whole master other header header′ m o image image′

@@ -1,5 +1,5 @@
 -- The comparison's rule for two accepted files, by their headers.
-use Prim.Native.Nat.{ℕ, zero, suc, _+_, _*_}
+use Prim.Native.Nat.{ℕ, zero, suc, _+_}
 use mathlib.Core.Path.{_≡_, refl, sym, ap, ap₂, _∙_}
 use mathlib.Core.Bool.{Bool, true, false, _&&_, Bool·beq}
 use mathlib.Core.List.{List, [], _∷_}
@@ -14,6 +14,7 @@ use Rattle.format.specs.Checked.{ok}
 use Rattle.format.specs.Compare.{sameWrites, coreWrites, played, imageOf, sameFrames, agree}
 use Rattle.format.specs.Header.{headerOf}
 use Rattle.format.specs.Pool.{Payload}
+use Rattle.format.specs.Size.{recordSize, masterHeaderSize, countSize, pcmSize}
 use Rattle.format.specs.Stream.{Stream, framesFrom, openingLimit}
 use Rattle.format.specs.Writes.{upward, writesWith, writesOf, writesOfAll, openingWrites}
 use Rattle.format.proofs.Accepted.{Accepted, settingFor}
@@ -22,16 +23,16 @@ use Rattle.format.proofs.Same.{same-count}
 use Rattle.format.proofs.Steps.{frame-step}
 use Rattle.master.specs.Places.{recordsAt, framesAt, behindFrame}
 use Rattle.master.proofs.Master.{IsMaster}
-use Rattle.spans.specs.Segments.{recordWrite, recordWrites}
-use Rattle.spans.proofs.Streams.{operations-are}
+use Rattle.spans.specs.Segments.{recordWrites}
+use Rattle.spans.proofs.Streams.{record-write, operations-are}
 use Rattle.same.specs.Match.{samePart, sameFramesAt}
-use Rattle.compare.specs.Accepted.{masterOpening, otherOpening, masterDrawn, otherDrawn, framesAgree, agreeBy}
+use Rattle.compare.specs.Accepted.{masterFrames, masterOpening, otherOpening, masterDrawn, otherDrawn, framesAgree, agreeBy}
 
 -- a master's records
 records-are : (pools : List Payload) (file : List ℕ) (count at : ℕ) → writesOfAll pools (recordsAt file count at) ≡ recordWrites file count at
 unfolding writesOfAll writesOf writesWith upward recordsAt recordWrites
 records-are pools file zero at = refl
-records-are pools file (suc count) at = ap (λ (l : List WriteRecord). recordWrite file at ∷ l) (records-are pools file count (at + 5))
+records-are pools file (suc count) at = ap₂ _∷_ (sym (record-write file at)) (records-are pools file count (at + recordSize))
 
 frames-count : (file : List ℕ) (count at : ℕ) → length (framesAt file count at) ≡ count
 unfolding framesAt
@@ -62,41 +63,45 @@ module _ (other : List ℕ) (header : Header) (s : Stream) (acc : Accepted other
       ap (λ (x : List (List Operation) × ℕ). sameFrames pools (s .pools) [] (x .0)) (sym (ok-is e))
   frames-are pools master (suc count) at from found e =
       let step = frame-step (settingFor other header (s .cards)) other count from found e in
-      let here = operations-are other header s acc two (length other) (be 2 other from) (from + 2) (step .frame) (step .here) in
+      let here = operations-are other header s acc two (length other) (be 2 other from) (from + countSize) (step .frame) (step .here) in
       let more = frames-are pools master count (behindFrame master at) (step .frame .1) (step .others) (step .from) in
-      ap (λ (x : List (List Operation) × ℕ). sameFrames pools (s .pools) (recordsAt master (be 2 master at) (at + 2) ∷ framesAt master count (behindFrame master at)) (x .0)) (sym (step .is))
-      ∙ ap₂ _&&_ (ap₂ sameWrites (records-are pools master (be 2 master at) (at + 2)) (here .0)) (more ∙ ap (sameFramesAt master other (header .«directory_offset») count (behindFrame master at)) (here .1))
+      ap (λ (x : List (List Operation) × ℕ). sameFrames pools (s .pools) (recordsAt master (be 2 master at) (at + countSize) ∷ framesAt master count (behindFrame master at)) (x .0)) (sym (step .is))
+      ∙ ap₂ _&&_ (ap₂ sameWrites (records-are pools master (be 2 master at) (at + countSize)) (here .0))
+      (more ∙ ap (sameFramesAt master other (header .«directory_offset») count (behindFrame master at)) (here .1))
 
   -- all frames of both
-  all-frames : (master : List ℕ) (header′ : Header) (t : Stream) → t .frames ≡ framesAt master (header′ .«frame_count») (20 + header′ .«initial_count» * 5)
+  all-frames : (master : List ℕ) (header′ : Header) (t : Stream) → t .frames ≡ framesAt master (header′ .«frame_count») (masterFrames header′)
       → sameFrames (t .pools) (s .pools) (t .frames) (s .frames) ≡ framesAgree master header′ other header
   unfolding framesAgree
   all-frames master header′ t e =
       ap (λ (fs : List (List Operation)). sameFrames (t .pools) (s .pools) fs (s .frames)) e ∙ go (eqb (header′ .«frame_count») (header .«frame_count»)) refl
     where
       go : (b : Bool) → eqb (header′ .«frame_count») (header .«frame_count») ≡ b
-          → sameFrames (t .pools) (s .pools) (framesAt master (header′ .«frame_count») (20 + header′ .«initial_count» * 5)) (s .frames) ≡ (b && sameFramesAt master other (header .«directory_offset») (header′ .«frame_count») (20 + header′ .«initial_count» * 5) (header .«frame_start»))
+          → sameFrames (t .pools) (s .pools) (framesAt master (header′ .«frame_count») (masterFrames header′)) (s .frames)
+          ≡ (b && sameFramesAt master other (header .«directory_offset») (header′ .«frame_count») (masterFrames header′) (header .«frame_start»))
       go true q =
           let same : header′ .«frame_count» ≡ header .«frame_count» = eqb-true _ _ q in
-          rw same (frames-are (t .pools) master (header .«frame_count») (20 + header′ .«initial_count» * 5) (header .«frame_start») (s .frames, length other) (acc .frames))
+          rw same (frames-are (t .pools) master (header .«frame_count») (masterFrames header′) (header .«frame_start») (s .frames, length other) (acc .frames))
       go false q =
-          frames-differ (t .pools) (s .pools) (framesAt master (header′ .«frame_count») (20 + header′ .«initial_count» * 5)) (s .frames) (λ c. eqb-false _ _ q (sym (frames-count master (header′ .«frame_count») (20 + header′ .«initial_count» * 5)) ∙ c ∙ read-count (header .«frame_count») (header .«frame_start») (s .frames, length other) (acc .frames)))
+          let ours = frames-count master (header′ .«frame_count») (masterFrames header′) in
+          let theirs = read-count (header .«frame_count») (header .«frame_start») (s .frames, length other) (acc .frames) in
+          frames-differ (t .pools) (s .pools) (framesAt master (header′ .«frame_count») (masterFrames header′)) (s .frames) (λ c. eqb-false _ _ q (sym ours ∙ c ∙ theirs))
 
   other-opening : openingWrites s ≡ otherOpening other header
   other-opening = operations-are other header s acc two (openingLimit header other) (header .«initial_count») (header .«initial_start») (s .opening, header .«frame_start») (acc .opening) .0
 
-  pub other-image : imageOf s ≡ otherDrawn 1048576 other header
-  other-image = ap (played (replicate 1048576 0x80)) other-opening
+  pub other-image : imageOf s ≡ otherDrawn pcmSize other header
+  other-image = ap (played (replicate pcmSize 0x80)) other-opening
 
   -- a master and such a file
   module _ (master : List ℕ) (t : Stream) (m : IsMaster master t) where
     master-opening : openingWrites t ≡ masterOpening master (headerOf master)
-    master-opening = ap (writesOfAll (t .pools)) (m .opening) ∙ records-are (t .pools) master (headerOf master .«initial_count») 20
+    master-opening = ap (writesOfAll (t .pools)) (m .opening) ∙ records-are (t .pools) master (headerOf master .«initial_count») masterHeaderSize
 
-    pub master-image : imageOf t ≡ masterDrawn 1048576 master (headerOf master)
-    master-image = ap (played (replicate 1048576 0x80)) master-opening
+    pub master-image : imageOf t ≡ masterDrawn pcmSize master (headerOf master)
+    master-image = ap (played (replicate pcmSize 0x80)) master-opening
 
-    pub agree-is : agree t s ≡ agreeBy master (headerOf master) other header (masterDrawn 1048576 master (headerOf master)) (otherDrawn 1048576 other header)
+    pub agree-is : agree t s ≡ agreeBy master (headerOf master) other header (masterDrawn pcmSize master (headerOf master)) (otherDrawn pcmSize other header)
     unfolding agree agreeBy samePart
     agree-is =
         ap₂ _&&_

@@ -1,10 +1,12 @@
--- What the answers of this crate say.
+-- What the answers of this crate say, and what a comparison leaves.
 use Prim.Native.Nat.{ℕ}
+use mathlib.Core.Path.{_≡_}
 use mathlib.Core.Bool.{true, false}
 use mathlib.Core.List.{List}
+use lib.ListN.{length}
 use Rattle.format.specs.declared.header.Header.{Header}
 use Rattle.format.specs.Checked.{Checked, ok, mapped}
-use Rattle.format.specs.Compare.{Compared, agreed, refusedFile, readVersion}
+use Rattle.format.specs.Compare.{Compared, agreed, refusedFile, readVersion, compared, masterImage, otherImage}
 use Rattle.format.specs.Header.{headerOf}
 use Rattle.format.specs.Rule.{numberOf, refusal}
 use Rattle.format.specs.Stream.{Stream}
@@ -27,3 +29,10 @@ comparedOf Passed = agreed true
 comparedOf Failed = agreed false
 comparedOf (MasterRefused r) = refusedFile 1 (numberOf (r .rule)) (r .place)
 comparedOf (OtherRefused r) = refusedFile 2 (numberOf (r .rule)) (r .place)
+
+-- the answer on two files, and what both lent images hold after it
+abbrev pub ComparedWith : Compared → (master other image image′ after after′ : List ℕ) → Type 0
+ComparedWith answer master other image image′ after after′ =
+    (answer ≡ compared master other (length image) (length image′))
+    × (after ≡ masterImage master other image image′)
+    × (after′ ≡ otherImage master other image image′)

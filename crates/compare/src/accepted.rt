@@ -1,15 +1,15 @@
 // Two accepted files, a master and one of version 2, by their headers.
 use format::Header;
+use format::MASTER_HEADER_SIZE;
+use format::RECORD_SIZE;
 use image_records::draw_master;
 use image_store::same_bytes;
 use images::draw_other;
 use same::same_frames;
 use same::same_opening;
 ghost use mathlib.Core.Path.{_≡_};
-ghost use Prim.Native.Nat.{_+_, _*_, _≤_};
 ghost use mathlib.Core.Bool.{Bool·beq};
-ghost use lib.ListN.{length};
-ghost use Rattle.compare.specs.Accepted.{masterDrawn, otherDrawn, framesAgree, agreeBy};
+ghost use Rattle.compare.specs.Accepted.{FramesWithin, framesAgree, agreeBy, Drawn};
 
 fn same_bool(a: bool, b: bool) -> bool
     ensures { λ r. ⌜ r ≡ Bool·beq a b ⌝ }
@@ -22,13 +22,13 @@ fn same_bool(a: bool, b: bool) -> bool
 
 // The frames, if there are equally many.
 fn frames_agree(master: &[u8], header: Header, other: &[u8], other_header: Header) -> bool
-    requires { ⌜ (20 + header .«initial_count» * 5 ≤ 0xE00000) × («other_header» .«frame_start» ≤ 0xE00000) ⌝ }
+    requires { ⌜ FramesWithin header «other_header» ⌝ }
     ensures { λ r. ⌜ r ≡ framesAgree (now (master .entry)) header (now (other .entry)) «other_header» ⌝ }
 {
     if header.frame_count != other_header.frame_count {
         return false;
     }
-    let start = 20 + header.initial_count * 5;
+    let start = MASTER_HEADER_SIZE as u32 + header.initial_count * RECORD_SIZE as u32;
     let other_start = other_header.frame_start as u32;
     same_frames(
         master,
@@ -49,7 +49,7 @@ fn agree_by(
     image: &[u8],
     other_image: &[u8],
 ) -> bool
-    requires { ⌜ (20 + header .«initial_count» * 5 ≤ 0xE00000) × («other_header» .«frame_start» ≤ 0xE00000) ⌝ }
+    requires { ⌜ FramesWithin header «other_header» ⌝ }
     ensures { λ r. ⌜ r ≡ agreeBy (now (master .entry)) header (now (other .entry)) «other_header» (now (image .entry)) (now («other_image» .entry)) ⌝ }
 {
     if !same_bool(header.repeat, other_header.repeat) {
@@ -80,8 +80,8 @@ pub fn compare_accepted(
     image: &mut [u8],
     other_image: &mut [u8],
 ) -> bool
-    requires { ⌜ (20 + header .«initial_count» * 5 ≤ 0xE00000) × («other_header» .«frame_start» ≤ 0xE00000) ⌝ }
-    ensures { λ r. ⌜ (r ≡ agreeBy (now (master .entry)) header (now (other .entry)) «other_header» (now (image .exit)) (now («other_image» .exit))) × (now (image .exit) ≡ masterDrawn (length (now (image .entry))) (now (master .entry)) header) × (now («other_image» .exit) ≡ otherDrawn (length (now («other_image» .entry))) (now (other .entry)) «other_header») ⌝ }
+    requires { ⌜ FramesWithin header «other_header» ⌝ }
+    ensures { λ r. ⌜ Drawn r (now (master .entry)) header (now (other .entry)) «other_header» (now (image .entry)) (now («other_image» .entry)) (now (image .exit)) (now («other_image» .exit)) ⌝ }
 {
     draw_master(master, header.initial_count, image);
     draw_other(

@@ -3,13 +3,14 @@ use crate::accepted::compare_accepted;
 use crate::version::VersionCheck;
 use crate::version::check_version;
 use format::Header;
+use format::PCM_SIZE;
 use format::Refusal;
 use format::Rule;
 ghost use mathlib.Core.Path.{_≡_};
-ghost use lib.ListN.{length};
 ghost use Rattle.format.specs.Checked.{ok};
-ghost use Rattle.format.specs.Compare.{agreed, compared, masterImage, otherImage};
-ghost use Rattle.compare.specs.Answer.{comparedOf, versionHeader};
+ghost use Rattle.format.specs.Compare.{agreed};
+ghost use Rattle.format.specs.Size.{pcmSize};
+ghost use Rattle.compare.specs.Answer.{comparedOf, versionHeader, ComparedWith};
 
 // Whether the files agree, or which one is refused.
 pub enum Comparison {
@@ -21,9 +22,9 @@ pub enum Comparison {
 
 // The bytes of a memory image. It is a call, so that no proof computes with so large a number.
 fn image_size() -> usize
-    ensures { λ r. ⌜ r ≡ 1048576 ⌝ }
+    ensures { λ r. ⌜ r ≡ pcmSize ⌝ }
 {
-    1048576
+    PCM_SIZE
 }
 
 fn too_short() -> Refusal
@@ -54,7 +55,8 @@ fn compare_headers(
     other_image: &mut [u8],
 ) -> Comparison
     requires { ⌜ (versionHeader 1 (now master) ≡ ok header) × (versionHeader 2 (now other) ≡ ok «other_header») ⌝ }
-    ensures { λ r. ⌜ (comparedOf r ≡ compared (now (master .entry)) (now (other .entry)) (length (now («master_image» .entry))) (length (now («other_image» .entry)))) × (now («master_image» .exit) ≡ masterImage (now (master .entry)) (now (other .entry)) (now («master_image» .entry)) (now («other_image» .entry))) × (now («other_image» .exit) ≡ otherImage (now (master .entry)) (now (other .entry)) (now («master_image» .entry)) (now («other_image» .entry))) ⌝ }
+    ensures { λ r. ⌜ ComparedWith (comparedOf r) (now (master .entry)) (now (other .entry)) (now («master_image» .entry)) (now («other_image» .entry))
+        (now («master_image» .exit)) (now («other_image» .exit)) ⌝ }
 {
     let size = image_size();
     if master_image.len() < size {
@@ -80,7 +82,8 @@ pub fn compare(
     master_image: &mut [u8],
     other_image: &mut [u8],
 ) -> Comparison
-    ensures { λ r. ⌜ (comparedOf r ≡ compared (now (master .entry)) (now (other .entry)) (length (now («master_image» .entry))) (length (now («other_image» .entry)))) × (now («master_image» .exit) ≡ masterImage (now (master .entry)) (now (other .entry)) (now («master_image» .entry)) (now («other_image» .entry))) × (now («other_image» .exit) ≡ otherImage (now (master .entry)) (now (other .entry)) (now («master_image» .entry)) (now («other_image» .entry))) ⌝ }
+    ensures { λ r. ⌜ ComparedWith (comparedOf r) (now (master .entry)) (now (other .entry)) (now («master_image» .entry)) (now («other_image» .entry))
+        (now («master_image» .exit)) (now («other_image» .exit)) ⌝ }
 {
     match check_version(master, 1) {
         VersionCheck::Refused(refusal) => Comparison::MasterRefused(refusal),

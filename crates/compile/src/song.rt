@@ -1,7 +1,10 @@
 // The entry point: the refusals 1 to 24 in their order, then the result.
 use file_check::FileAnswer;
 use file_check::check_file;
+use format::FILE_LIMIT;
 use format::Header;
+use format::MASTER_HEADER_SIZE;
+use format::RECORD_SIZE;
 use format::Refusal;
 use format::Rule;
 use repack::SPOTS;
@@ -43,7 +46,7 @@ fn repack_measured(file: &[u8], header: Header, pcm: usize, buffer: &mut [u8]) -
     let mut places = [0; MOST];
     let mut spots = [0; SPOTS];
     let mut numbers = [0; MOST];
-    let start = 20 + records * 5;
+    let start = MASTER_HEADER_SIZE + records * RECORD_SIZE;
     let found = measure_frames(
         file,
         start,
@@ -55,7 +58,7 @@ fn repack_measured(file: &[u8], header: Header, pcm: usize, buffer: &mut [u8]) -
         &mut numbers,
     );
     let layout = lay_out(records, pcm, found.waves, found.size);
-    if 0xE00000 < layout.total {
+    if (FILE_LIMIT as usize) < layout.total {
         return refused(Rule::ResultSize);
     }
     if buffer.len() < layout.total {

@@ -6,20 +6,24 @@ use mathlib.Core.Path.{_≡_, refl}
 use lib.Dec.{eqb, ltb}
 use lib.ListN.{length}
 use Rattle.format.specs.declared.header.Header.{Header}
+use Rattle.format.specs.declared.player.NextPart.{NextPart}
 use Rattle.format.specs.declared.player.Part.the-variants.{Between, Opening, Frame}
 use Rattle.format.specs.declared.player.Progress.{Progress}
-use Rattle.format.specs.State.{partNumber}
+use Rattle.format.specs.Next.{nextPart}
+use Rattle.format.specs.State.{partNumber, openingFrom, positionOf}
+use Rattle.format.specs.Stream.{openingLimit}
 use Rattle.belongs.specs.Foreign.{foreignTo}
 use Rattle.current.specs.declared.Current.{Current}
-use Rattle.current.specs.Current.{noCurrent, goingOn, openingEnd, underWay, openingAt, frameFrom, frameAt, currentBetween, currentOf}
+use Rattle.current.specs.Current.{noCurrent, goingOn, underWay, frameOn, frameAt, currentBetween, currentOf}
 
--- the opening begins; the next frame; frame 1 again; the opening goes on; a frame goes on
+-- the opening begins; a frame begins; the opening goes on; a frame goes on
 pub data Way (file : List ℕ) (header : Header) (p : Progress) (c : Current) : Type 0 where
-  opens : eqb (p .part) (partNumber Between) ≡ true → p .initialized ≡ false → c ≡ openingAt (length file) header → Way file header p c
-  next : eqb (p .part) (partNumber Between) ≡ true → p .initialized ≡ true → ltb (p .«frame_index») (header .«frame_count») ≡ true → ltb (length file) (p .cursor + 2) ≡ false → c ≡ frameFrom file (p .cursor) (p .«frame_index» + 1) → Way file header p c
-  again : eqb (p .part) (partNumber Between) ≡ true → p .initialized ≡ true → ltb (p .«frame_index») (header .«frame_count») ≡ false → header .repeat ≡ true → ltb (length file) (header .«frame_start» + 2) ≡ false → c ≡ frameFrom file (header .«frame_start») 1 → Way file header p c
-  opening : eqb (p .part) (partNumber Between) ≡ false → eqb (p .part) (partNumber Opening) ≡ true → c ≡ goingOn (openingEnd (length file) (header .version) (header .«frame_start»)) p → Way file header p c
-  frame : eqb (p .part) (partNumber Between) ≡ false → eqb (p .part) (partNumber Opening) ≡ false → eqb (p .part) (partNumber Frame) ≡ true → p .initialized ≡ true → c ≡ goingOn (length file) p → Way file header p c
+  opens : eqb (p .part) (partNumber Between) ≡ true → eqb (nextPart header p .part) (partNumber Opening) ≡ true → c ≡ goingOn (openingLimit header file) (openingFrom header) → Way file header p c
+  begins : eqb (p .part) (partNumber Between) ≡ true → eqb (nextPart header p .part) (partNumber Opening) ≡ false → eqb (nextPart header p .part) (partNumber Frame) ≡ true
+      → ltb (length file) (nextPart header p .place + 2) ≡ false → c ≡ frameOn file (nextPart header p .place) (nextPart header p .frame) → Way file header p c
+  opening : eqb (p .part) (partNumber Between) ≡ false → eqb (p .part) (partNumber Opening) ≡ true → c ≡ goingOn (openingLimit header file) (positionOf p) → Way file header p c
+  frame : eqb (p .part) (partNumber Between) ≡ false → eqb (p .part) (partNumber Opening) ≡ false → eqb (p .part) (partNumber Frame) ≡ true → p .initialized ≡ true
+      → c ≡ goingOn (length file) (positionOf p) → Way file header p c
 
 pub record Found (file : List ℕ) (header : Header) (cards : ℕ) (p : Progress) (c : Current) : Type 0 where
   pub unfinished : p .finished ≡ false
@@ -40,29 +44,34 @@ only-some there (none e) = absurd (true≢false (rw e at there))
 only-some there (some a) = a
 
 module _ (file : List ℕ) (header : Header) (p : Progress) (c : Current) where
-  frame-found : (at number : ℕ) → c ≡ frameAt file at number → Either ((ltb (length file) (at + 2) ≡ false) × (c ≡ frameFrom file at number)) c
+  frame-found : (place number : ℕ) → c ≡ frameAt file place number → Either ((ltb (length file) (place + 2) ≡ false) × (c ≡ frameOn file place number)) c
   unfolding frameAt
-  frame-found at number e = go (ltb (length file) (at + 2)) refl e
+  frame-found place number e = go (ltb (length file) (place + 2)) refl e
     where
-      go : (short : Bool) → ltb (length file) (at + 2) ≡ short → c ≡ cond short noCurrent (frameFrom file at number) → Either ((ltb (length file) (at + 2) ≡ false) × (c ≡ frameFrom file at number)) c
+      go : (short : Bool) → ltb (length file) (place + 2) ≡ short → c ≡ cond short noCurrent (frameOn file place number) → Either ((ltb (length file) (place + 2) ≡ false) × (c ≡ frameOn file place number)) c
       go true s h = none h
       go false s h = some (s, h)
 
   between-found : eqb (p .part) (partNumber Between) ≡ true → c ≡ currentBetween file header p → Either (Way file header p c) c
   unfolding currentBetween
-  between-found between e = go (p .initialized) refl (ltb (p .«frame_index») (header .«frame_count»)) refl (header .repeat) refl e
+  between-found between e = go (eqb (next .part) (partNumber Opening)) refl (eqb (next .part) (partNumber Frame)) refl e
     where
-      go : (on : Bool) → p .initialized ≡ on → (more : Bool) → ltb (p .«frame_index») (header .«frame_count») ≡ more → (repeat : Bool) → header .repeat ≡ repeat → c ≡ cond (not on) (openingAt (length file) header) (cond more (frameAt file (p .cursor) (p .«frame_index» + 1)) (cond repeat (frameAt file (header .«frame_start») 1) noCurrent)) → Either (Way file header p c) c
-      go false on more m repeat r h = some (opens between on h)
-      go true on true m repeat r h = with-facts (λ found. next between on m (found .0) (found .1)) (frame-found (p .cursor) (p .«frame_index» + 1) h)
-      go true on false m true r h = with-facts (λ found. again between on m r (found .0) (found .1)) (frame-found (header .«frame_start») 1 h)
-      go true on false m false r h = none h
+      next : NextPart
+      next = nextPart header p
 
-  under-way-found : eqb (p .part) (partNumber Between) ≡ false → c ≡ underWay (length file) header p → Either (Way file header p c) c
+      go : (first : Bool) → eqb (next .part) (partNumber Opening) ≡ first → (framed : Bool) → eqb (next .part) (partNumber Frame) ≡ framed
+          → c ≡ cond first (goingOn (openingLimit header file) (openingFrom header)) (cond framed (frameAt file (next .place) (next .frame)) noCurrent) → Either (Way file header p c) c
+      go true o framed f h = some (opens between o h)
+      go false o true f h = with-facts (λ found. begins between o f (found .0) (found .1)) (frame-found (next .place) (next .frame) h)
+      go false o false f h = none h
+
+  under-way-found : eqb (p .part) (partNumber Between) ≡ false → c ≡ underWay file header p → Either (Way file header p c) c
   unfolding underWay
   under-way-found between e = go (eqb (p .part) (partNumber Opening)) refl (eqb (p .part) (partNumber Frame)) refl (p .initialized) refl e
     where
-      go : (first : Bool) → eqb (p .part) (partNumber Opening) ≡ first → (framed : Bool) → eqb (p .part) (partNumber Frame) ≡ framed → (on : Bool) → p .initialized ≡ on → c ≡ cond first (goingOn (openingEnd (length file) (header .version) (header .«frame_start»)) p) (cond (not framed) noCurrent (cond (not on) noCurrent (goingOn (length file) p))) → Either (Way file header p c) c
+      go : (first : Bool) → eqb (p .part) (partNumber Opening) ≡ first → (framed : Bool) → eqb (p .part) (partNumber Frame) ≡ framed → (on : Bool) → p .initialized ≡ on
+          → c ≡ cond first (goingOn (openingLimit header file) (positionOf p)) (cond (not framed) noCurrent (cond (not on) noCurrent (goingOn (length file) (positionOf p))))
+          → Either (Way file header p c) c
       go true o framed f on i h = some (opening between o h)
       go false o false f on i h = none h
       go false o true f false i h = none h
@@ -72,7 +81,9 @@ module _ (file : List ℕ) (header : Header) (p : Progress) (c : Current) where
   unfolding currentOf
   either-found cards e = go (p .finished) refl (foreignTo (length file) header cards p) refl (eqb (p .part) (partNumber Between)) refl e
     where
-      go : (over : Bool) → p .finished ≡ over → (other : Bool) → foreignTo (length file) header cards p ≡ other → (between : Bool) → eqb (p .part) (partNumber Between) ≡ between → c ≡ cond over noCurrent (cond other noCurrent (cond between (currentBetween file header p) (underWay (length file) header p))) → Either (Found file header cards p c) c
+      go : (over : Bool) → p .finished ≡ over → (other : Bool) → foreignTo (length file) header cards p ≡ other → (between : Bool)
+          → eqb (p .part) (partNumber Between) ≡ between → c ≡ cond over noCurrent (cond other noCurrent (cond between (currentBetween file header p) (underWay file header p)))
+          → Either (Found file header cards p c) c
       go true o other f between b h = none h
       go false o true f between b h = none h
       go false o false f true b h = with-facts (λ way. record { unfinished = o; own = f; way = way }) (between-found b h)
@@ -82,9 +93,8 @@ module _ (file : List ℕ) (header : Header) (p : Progress) (c : Current) where
   current-found cards e there = only-some there (either-found cards e)
 
   way-there : Way file header p c → c .none ≡ false
-  way-there (opens between on e) = rw e
-  way-there (next between on more long e) = rw e
-  way-there (again between on more repeat long e) = rw e
+  way-there (opens between first e) = rw e
+  way-there (begins between other framed long e) = rw e
   way-there (opening between first e) = rw e
   way-there (frame between first framed on e) = rw e
 

@@ -1,67 +1,59 @@
 -- What a vsync call goes on with: the part that is under way, or the one that the call begins.
-use Prim.Native.Nat.{ℕ, _+_}
+use Prim.Native.Nat.{ℕ, _+_, _-_}
 use mathlib.Core.Bool.{true, false, cond, not}
 use mathlib.Core.List.{List}
 use lib.Dec.{eqb, ltb}
 use lib.ListN.{length}
 use Rattle.format.specs.declared.header.Header.{Header}
 use Rattle.format.specs.declared.player.Part.the-variants.{Between, Opening, Frame}
+use Rattle.format.specs.declared.player.Position.{Position}
 use Rattle.format.specs.declared.player.Progress.{Progress}
 use Rattle.format.specs.Bytes.{be}
-use Rattle.format.specs.State.{partNumber}
+use Rattle.format.specs.Next.{nextPart, byNext}
+use Rattle.format.specs.State.{partNumber, betweenAt, openingFrom, frameFrom, positionOf, movedTo}
+use Rattle.format.specs.Stream.{openingLimit}
 use Rattle.belongs.specs.Foreign.{foreignTo}
 use Rattle.current.specs.declared.Current.{Current}
 
 -- the call has no part to go on with
 abbrev pub noCurrent : Current
-noCurrent =
-    record { none = true; part = partNumber Between; limit = 0; cursor = 0; «operation_index» = 0; «operation_count» = 0; «write_index» = 0; «frame_index» = 0 }
+noCurrent = record { none = true; limit = 0; at = betweenAt 0 0 }
 
--- the part that is under way, as the progress says
-abbrev pub goingOn : (limit : ℕ) → Progress → Current
-goingOn limit p =
-    record { none = false; part = p .part; limit = limit; cursor = p .cursor; «operation_index» = p .«operation_index»; «operation_count» = p .«operation_count»; «write_index» = p .«write_index»; «frame_index» = p .«frame_index» }
-
--- where the opening's operations end at the latest
-unfoldable pub openingEnd : (size version start : ℕ) → ℕ
-openingEnd size version start = cond (eqb version 1) size (cond (ltb start size) start size)
+-- the call goes on at a position
+abbrev pub goingOn : (limit : ℕ) → Position → Current
+goingOn limit at = record { none = false; limit = limit; at = at }
 
 -- the opening or a frame goes on
-unfoldable pub underWay : (size : ℕ) → Header → Progress → Current
-underWay size header p =
-    cond (eqb (p .part) (partNumber Opening)) (goingOn (openingEnd size (header .version) (header .«frame_start»)) p)
+unfoldable pub underWay : List ℕ → Header → Progress → Current
+underWay file header p =
+    cond (eqb (p .part) (partNumber Opening)) (goingOn (openingLimit header file) (positionOf p))
     (cond (not (eqb (p .part) (partNumber Frame))) noCurrent
-    (cond (not (p .initialized)) noCurrent (goingOn size p)))
+    (cond (not (p .initialized)) noCurrent (goingOn (length file) (positionOf p))))
 
--- the opening that begins
-abbrev pub openingAt : (size : ℕ) → Header → Current
-openingAt size header =
-    record { none = false; part = partNumber Opening; limit = openingEnd size (header .version) (header .«frame_start»); cursor = header .«initial_start»; «operation_index» = 0; «operation_count» = header .«initial_count»; «write_index» = 0; «frame_index» = 0 }
-
--- a frame that begins, counted from 1, behind its count that stands at a place
-abbrev pub frameFrom : List ℕ → (at frame : ℕ) → Current
-frameFrom file at frame =
-    record { none = false; part = partNumber Frame; limit = length file; cursor = at + 2; «operation_index» = 0; «operation_count» = be 2 file at; «write_index» = 0; «frame_index» = frame }
+-- a frame that begins, counted from 0, behind its count that stands at a place
+abbrev pub frameOn : List ℕ → (place frame : ℕ) → Current
+frameOn file place frame = goingOn (length file) (frameFrom (place + 2) (be 2 file place) (frame + 1))
 
 -- where the file has the count
-unfoldable pub frameAt : List ℕ → (at frame : ℕ) → Current
-frameAt file at frame = cond (ltb (length file) (at + 2)) noCurrent (frameFrom file at frame)
+unfoldable pub frameAt : List ℕ → (place frame : ℕ) → Current
+frameAt file place frame = cond (ltb (length file) (place + 2)) noCurrent (frameOn file place frame)
 
 -- between vsyncs the next one begins
 unfoldable pub currentBetween : List ℕ → Header → Progress → Current
 currentBetween file header p =
-    cond (not (p .initialized)) (openingAt (length file) header)
-    (cond (ltb (p .«frame_index») (header .«frame_count»)) (frameAt file (p .cursor) (p .«frame_index» + 1))
-    (cond (header .repeat) (frameAt file (header .«frame_start») 1) noCurrent))
+    byNext (nextPart header p) (goingOn (openingLimit header file) (openingFrom header)) (frameAt file) noCurrent
 
 -- what the call of a state with so many cards goes on with
 unfoldable pub currentOf : List ℕ → Header → (cards : ℕ) → Progress → Current
 currentOf file header cards p =
     cond (p .finished) noCurrent
     (cond (foreignTo (length file) header cards p) noCurrent
-    (cond (eqb (p .part) (partNumber Between)) (currentBetween file header p) (underWay (length file) header p)))
+    (cond (eqb (p .part) (partNumber Between)) (currentBetween file header p) (underWay file header p)))
+
+-- the operations that are left of it
+abbrev pub leftOf : Current → ℕ
+leftOf c = c .at .«operation_count» - c .at .«operation_index»
 
 -- the progress in that part
 abbrev pub playing : Progress → Current → Progress
-playing p c =
-    record { part = c .part; cursor = c .cursor; «operation_index» = c .«operation_index»; «operation_count» = c .«operation_count»; «write_index» = c .«write_index»; «frame_index» = c .«frame_index»; initialized = p .initialized; finished = p .finished; «wave_sources» = p .«wave_sources» }
+playing p c = movedTo p (c .at)

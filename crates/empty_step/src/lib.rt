@@ -1,37 +1,25 @@
 // The call of an empty frame between vsyncs, decided by comparing a few numbers of the state. It takes no write, so that nothing is
 // read but the frame's count.
 use belongs::foreign;
+use big_endian::passes;
 use big_endian::read_u16;
+use format::COUNT_SIZE;
 use format::Header;
+use format::NextPart;
 use format::Part;
+use format::Position;
 use format::Progress;
-use writes::passes;
+use state::between_at;
+use state::next_part;
 ghost use mathlib.Core.Path.{_≡_};
-ghost use Rattle.empty_step.specs.Empty.{behindFrame, noEmpty, emptyOf};
+ghost use Prim.Native.Nat.{_+_, _^_, _<_};
+ghost use Rattle.empty_step.specs.Empty.{noEmpty, emptyNext, emptyOf};
 
-// Whether a vsync is under way, so that the call goes on with it; whether the call is taken, and what it changes in the progress: the
-// cursor behind the count, and one frame more.
+// Whether a vsync is under way, so that the call goes on with it; whether the call is taken, and where the player then is.
 pub struct EmptyStep {
     pub under_way: bool,
     pub taken: bool,
-    pub cursor: usize,
-    pub frame_index: u32,
-}
-
-// Whether a state between vsyncs is one that a complete vsync leaves.
-fn behind_frame(progress: Progress) -> bool
-    ensures { λ r. ⌜ r ≡ behindFrame progress ⌝ }
-{
-    if !progress.initialized {
-        return false;
-    }
-    if progress.finished {
-        return false;
-    }
-    if progress.write_index != 0 {
-        return false;
-    }
-    true
+    pub to: Position,
 }
 
 // The call is not taken.
@@ -41,8 +29,29 @@ fn no_empty(under_way: bool) -> EmptyStep
     EmptyStep {
         under_way: under_way,
         taken: false,
-        cursor: 0,
-        frame_index: 0,
+        to: between_at(0, 0),
+    }
+}
+
+// The frame that is next, if it is empty: the player is then behind its count.
+fn empty_next(file: &[u8], next: NextPart) -> EmptyStep
+    requires { ⌜ next .frame + 1 < 2 ^ 32 ⌝ }
+    ensures { λ r. ⌜ r ≡ emptyNext (now (file .entry)) next ⌝ }
+{
+    if next.part != Part::FRAME {
+        return no_empty(false);
+    }
+    let place = next.place;
+    if passes(file.len(), place, COUNT_SIZE) {
+        return no_empty(false);
+    }
+    if read_u16(file, place) != 0 {
+        return no_empty(false);
+    }
+    EmptyStep {
+        under_way: false,
+        taken: true,
+        to: between_at(place + COUNT_SIZE, next.frame + 1),
     }
 }
 
@@ -53,25 +62,11 @@ pub fn empty_step(file: &[u8], header: Header, cards: usize, progress: Progress)
     if progress.part != Part::BETWEEN {
         return no_empty(true);
     }
-    if !behind_frame(progress) {
-        return no_empty(false);
-    }
-    if header.frame_count <= progress.frame_index {
+    if progress.finished {
         return no_empty(false);
     }
     if foreign(file.len(), header, cards, progress) {
         return no_empty(false);
     }
-    if passes(file.len(), progress.cursor, 2) {
-        return no_empty(false);
-    }
-    if read_u16(file, progress.cursor) != 0 {
-        return no_empty(false);
-    }
-    EmptyStep {
-        under_way: false,
-        taken: true,
-        cursor: progress.cursor + 2,
-        frame_index: progress.frame_index + 1,
-    }
+    empty_next(file, next_part(header, progress))
 }

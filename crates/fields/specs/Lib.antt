@@ -1,2 +1,2 @@
 -- What the contracts of `fields` cite.
-pub mod Fields
+pub mod Decoded

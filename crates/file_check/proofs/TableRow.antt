@@ -20,7 +20,8 @@ module _ {B : Type 0} (verdict layout : Checked (Unit {0})) (table : CardTable) 
       let v : verdict ≡ refused number place = ap (λ (r : Reading). r .0) e in
       absurd (refused-not-ok (rw v at f))
 
-  pub tables-refused : (cards : Checked (List CardRequirement)) (number place : ℕ) → (verdict, table) ≡ reading cards → (verdict >> layout) ≡ refused number place → (cards >>= λ (found : List CardRequirement). layout >> rest (tableOf found)) ≡ refused number place
+  pub tables-refused : (cards : Checked (List CardRequirement)) (number place : ℕ) → (verdict, table) ≡ reading cards → (verdict >> layout) ≡ refused number place
+      → (cards >>= λ (found : List CardRequirement). layout >> rest (tableOf found)) ≡ refused number place
   tables-refused (ok found) number place e f =
       let v : verdict ≡ ok tt = ap (λ (r : Reading). r .0) e in
       rw (rw v at f)

@@ -16,20 +16,25 @@ use Rattle.format.specs.Checked.{ok}
 use Rattle.format.specs.Player.{Gathered, wavesBy, placed, bytesAt, gathered}
 use Rattle.format.specs.Writes.{upward, writesWith}
 use Rattle.format.proofs.Checks.{and-true}
-use Rattle.agreement.proofs.Paced.{gathered-step}
-use Rattle.agreement.proofs.Used.{length-upward}
+use Rattle.format.proofs.Writes.{length-upward}
+use Rattle.play_laws.proofs.Paced.{gathered-step}
+use Rattle.fields.specs.declared.decode.Decoded.{Decoded}
 use Rattle.fill_records.specs.Records.{fillPlace, fillRecords}
-use Rattle.fill_records.proofs.Operation.{drop-upward, take-upward, targetAt, addressAt, valueAt, writesAt, behindAt, operation-records, operation-after}
+use Rattle.fill_records.proofs.Operation.{drop-upward, take-upward, operation-records, operation-after}
 use Rattle.fill_records.proofs.Records.{records-join}
 use Rattle.fill_pace.specs.declared.FillPace.{FillPace}
-use Rattle.fill_pace.specs.Fills.{stoppedAt, countAt, sizeAt, fillsFrom, fillsPaced}
-use Rattle.fill_pace.proofs.Items.{versionOf, widthOf, startsIn, endsIn, Used, used}
+use Rattle.fill_pace.specs.Fills.{stoppedAt, countAt, fillsFrom, fillsPaced}
+use Rattle.fill_pace.proofs.Items.{versionOf, widthOf, startsIn, endsIn, itemOn, Used, used}
 use Rattle.fill_pace.proofs.Steps.{fills-end, fills-full, fills-none, fills-step, from-fewer}
 
 -- what a call gathers, where the walk stops
 abbrev pub taken : StreamPlayer → List ℕ → (left room : ℕ) → Progress → FillPace → Gathered
 taken state file left room p r =
-    record { records = fillRecords file (versionOf state) (room - r .room) (fillPlace (p .cursor) (p .«write_index»)); room = r .room; progress = placed p (r .cursor) (p .«operation_index» + (left - r .left)) (r .writes) (p .«wave_sources») }
+    record {
+      records = fillRecords file (versionOf state) (room - r .room) (fillPlace (p .cursor) (p .«write_index»));
+      room = r .room;
+      progress = placed p (r .cursor) (p .«operation_index» + (left - r .left)) (r .writes) (p .«wave_sources»);
+    }
 
 same-waves : (b : Bool) (waves set : List WaveSource) → set ≡ waves → cond b set waves ≡ waves
 same-waves true waves set e = e
@@ -38,24 +43,24 @@ same-waves false waves set e = refl
 module _ (state : StreamPlayer) (file : List ℕ) (limit end : ℕ) (pooled : eqb (versionOf state) 1 ≡ false) (most : end ≤ limit) (inside : end ≤ length file) where
   -- ONE OPERATION
 
-  module _ (left room : ℕ) (p : Progress) (some : 0 < left) (free : 0 < room) (u : Used state file limit (p .cursor)) (whole : p .cursor + 16 ≤ end) (more : p .«write_index» < writesAt file (widthOf state) (p .cursor)) where
-    abbrev width : ℕ
-    width = widthOf state
+  module _ (left room : ℕ) (p : Progress) (some : 0 < left) (free : 0 < room) (u : Used state file limit (p .cursor)) (whole : p .cursor + 16 ≤ end) (more : p .«write_index» < itemOn state file (p .cursor) .length) where
+    abbrev item : Decoded
+    item = itemOn state file (p .cursor)
 
     abbrev made : ℕ
     made = p .«write_index»
 
     abbrev all : ℕ
-    all = writesAt file width (p .cursor)
+    all = item .length
 
     abbrev target : ℕ
-    target = targetAt file (p .cursor)
+    target = item .target
 
     abbrev address : ℕ
-    address = addressAt file width (p .cursor)
+    address = item .address
 
     abbrev value : ℕ
-    value = valueAt file width (p .cursor)
+    value = item .value
 
     abbrev writes : List WriteRecord
     writes = writesWith (bytesAt file (state .header .«directory_offset»)) (u .item .operation)
@@ -67,7 +72,7 @@ module _ (state : StreamPlayer) (file : List ℕ) (limit end : ℕ) (pooled : eq
         rw (u .writes) (ap (λ (k : ℕ). drop made (upward target address (replicate k value))) sum ∙ drop-upward target value made (all - made) address)
 
     records : (n : ℕ) → made + n ≤ all → fillRecords file (versionOf state) n (fillPlace (p .cursor) made) ≡ upward target (address + made) (replicate n value)
-    records n few = operation-records file (versionOf state) (p .cursor) made (omega arith) more (omega (arith, u .small)) n few
+    records n few = operation-records file (versionOf state) (p .cursor) made (omega arith) (u .low) more (omega (arith, u .small)) n few
 
     first-writes : (n : ℕ) → made + n ≤ all → take n (drop made writes) ≡ fillRecords file (versionOf state) n (fillPlace (p .cursor) made)
     first-writes n few =
@@ -84,21 +89,31 @@ module _ (state : StreamPlayer) (file : List ℕ) (limit end : ℕ) (pooled : eq
     waves-stay = same-waves (eqb made 0) (p .«wave_sources») _ (u .waves (p .«wave_sources»))
 
     -- the room ends within it
-    cut : ltb room (all - made) ≡ true → gathered state file limit left room p ≡ ok (record { records = fillRecords file (versionOf state) room (fillPlace (p .cursor) made); room = 0; progress = placed p (p .cursor) (p .«operation_index») (made + room) (p .«wave_sources») })
+    cut : ltb room (all - made) ≡ true
+        → gathered state file limit left room p ≡ ok (record {
+          records = fillRecords file (versionOf state) room (fillPlace (p .cursor) made);
+          room = 0;
+          progress = placed p (p .cursor) (p .«operation_index») (made + room) (p .«wave_sources»);
+        })
     cut short =
         gathered-step state file limit left room p some free
         ∙ rw (u .is, all-long, le-ltb all made (omega arith), left-long, short, waves-stay, first-writes room (omega (arith, ltb-true room (all - made) short)))
 
     -- then the others
-    onward : ltb room (all - made) ≡ false → (g : Gathered) → gathered state file limit (left - 1) (room - (all - made)) (placed p (behindAt file width (p .cursor)) (p .«operation_index» + 1) 0 (p .«wave_sources»)) ≡ ok g → gathered state file limit left room p ≡ ok (record { records = fillRecords file (versionOf state) (all - made) (fillPlace (p .cursor) made) ++ g .records; room = g .room; progress = g .progress })
+    onward : ltb room (all - made) ≡ false → (g : Gathered)
+        → gathered state file limit (left - 1) (room - (all - made)) (placed p (p .cursor + item .size) (p .«operation_index» + 1) 0 (p .«wave_sources»)) ≡ ok g
+        → gathered state file limit left room p ≡ ok (record { records = fillRecords file (versionOf state) (all - made) (fillPlace (p .cursor) made) ++ g .records; room = g .room; progress = g .progress })
     onward enough g e =
         gathered-step state file limit left room p some free
         ∙ rw (u .is, all-long, le-ltb all made (omega arith), left-long, enough, waves-stay, u .next, e, left-writes, ← (records (all - made) (omega arith)))
 
     -- the records of both
-    joined : (n : ℕ) → fillRecords file (versionOf state) (all - made) (fillPlace (p .cursor) made) ++ fillRecords file (versionOf state) n (fillPlace (behindAt file width (p .cursor)) 0) ≡ fillRecords file (versionOf state) (all - made + n) (fillPlace (p .cursor) made)
+    joined : (n : ℕ)
+        → fillRecords file (versionOf state) (all - made) (fillPlace (p .cursor) made) ++ fillRecords file (versionOf state) n (fillPlace (p .cursor + item .size) 0)
+        ≡ fillRecords file (versionOf state) (all - made + n) (fillPlace (p .cursor) made)
     joined n =
-        sym (records-join file (versionOf state) (all - made) n (fillPlace (p .cursor) made) ∙ ap (λ (l : List WriteRecord). fillRecords file (versionOf state) (all - made) (fillPlace (p .cursor) made) ++ l) (operation-after file (versionOf state) (p .cursor) made (omega arith) more (omega (arith, u .small)) n))
+        sym (records-join file (versionOf state) (all - made) n (fillPlace (p .cursor) made)
+        ∙ ap (λ (l : List WriteRecord). fillRecords file (versionOf state) (all - made) (fillPlace (p .cursor) made) ++ l) (operation-after file (versionOf state) (p .cursor) made (omega arith) (u .low) more (omega (arith, u .small)) n))
 
   -- SO MANY OPERATIONS
 
@@ -109,7 +124,8 @@ module _ (state : StreamPlayer) (file : List ℕ) (limit end : ℕ) (pooled : eq
   count cursor = countAt file (widthOf state) (startsIn state) (endsIn state) end cursor
 
   -- as it stands
-  stands : (left room : ℕ) (p : Progress) → gathered state file limit left room p ≡ ok (record { records = []; room = room; progress = p }) → gathered state file limit left room p ≡ ok (taken state file left room p (stoppedAt true (p .cursor) left room (p .«write_index»)))
+  stands : (left room : ℕ) (p : Progress) → gathered state file limit left room p ≡ ok (record { records = []; room = room; progress = p })
+      → gathered state file limit left room p ≡ ok (taken state file left room p (stoppedAt true (p .cursor) left room (p .«write_index»)))
   unfolding fillRecords
   stands left room p e =
       let index : p .«operation_index» + (left - left) ≡ p .«operation_index» = omega arith in
@@ -124,7 +140,8 @@ module _ (state : StreamPlayer) (file : List ℕ) (limit end : ℕ) (pooled : eq
   unfolding gathered
   no-room left p = refl
 
-  from-gathered : (left room : ℕ) (p : Progress) → walk left room (p .cursor) (p .«write_index») .taken ≡ true → gathered state file limit left room p ≡ ok (taken state file left room p (walk left room (p .cursor) (p .«write_index»)))
+  from-gathered : (left room : ℕ) (p : Progress) → walk left room (p .cursor) (p .«write_index») .taken ≡ true
+      → gathered state file limit left room p ≡ ok (taken state file left room p (walk left room (p .cursor) (p .«write_index»)))
   from-gathered zero room p is =
       rw (fills-end file (widthOf state) (startsIn state) (endsIn state) end room (p .cursor) (p .«write_index»)) (stands 0 room p (nothing-left room p))
   from-gathered (suc left) zero p is =
@@ -138,7 +155,7 @@ module _ (state : StreamPlayer) (file : List ℕ) (limit end : ℕ) (pooled : eq
       rest = count (p .cursor) - made
 
       onto : ℕ
-      onto = p .cursor + sizeAt file (widthOf state) (p .cursor)
+      onto = p .cursor + itemOn state file (p .cursor) .size
 
       behind : Progress
       behind = placed p onto (p .«operation_index» + 1) 0 (p .«wave_sources»)
@@ -150,7 +167,9 @@ module _ (state : StreamPlayer) (file : List ℕ) (limit end : ℕ) (pooled : eq
       Others : Type 0
       Others = r .taken ≡ true → gathered state file limit left (suc others - rest) behind ≡ ok (taken state file left (suc others - rest) behind r)
 
-      first : Others → Used state file limit (p .cursor) → count (p .cursor) ≡ writesAt file (widthOf state) (p .cursor) → p .cursor + 16 ≤ end → made < count (p .cursor) → (b : Bool) → ltb (suc others) rest ≡ b → walk (suc left) (suc others) (p .cursor) made ≡ cond b (stoppedAt true (p .cursor) (suc left) 0 (made + suc others)) r → gathered state file limit (suc left) (suc others) p ≡ ok (taken state file (suc left) (suc others) p (walk (suc left) (suc others) (p .cursor) made))
+      first : Others → Used state file limit (p .cursor) → count (p .cursor) ≡ itemOn state file (p .cursor) .length → p .cursor + 16 ≤ end → made < count (p .cursor)
+          → (b : Bool) → ltb (suc others) rest ≡ b → walk (suc left) (suc others) (p .cursor) made ≡ cond b (stoppedAt true (p .cursor) (suc left) 0 (made + suc others)) r
+          → gathered state file limit (suc left) (suc others) p ≡ ok (taken state file (suc left) (suc others) p (walk (suc left) (suc others) (p .cursor) made))
       first later u same whole more true short e =
           let index : p .«operation_index» + (suc left - suc left) ≡ p .«operation_index» = omega arith in
           let room : suc others - 0 ≡ suc others = omega arith in
@@ -159,12 +178,12 @@ module _ (state : StreamPlayer) (file : List ℕ) (limit end : ℕ) (pooled : eq
           let fewer = from-fewer file (widthOf state) (startsIn state) (endsIn state) end left (suc others - rest) onto 0 in
           let one : suc left - 1 ≡ left = omega arith in
           let index : p .«operation_index» + 1 + (left - r .left) ≡ p .«operation_index» + (suc left - r .left) = omega (arith, fewer .0) in
-          let all : ℕ = writesAt file (widthOf state) (p .cursor) in
+          let all : ℕ = itemOn state file (p .cursor) .length in
           let n : ℕ = suc others - rest - r .room in
           let sum : all - made + n ≡ suc others - r .room = omega (arith, same, fewer .1, ltb-false (suc others) rest enough) in
           let more′ = rw same at more in
-          let both = ap (λ (k : ℕ). fillRecords file (versionOf state) (all - made) (fillPlace (p .cursor) made) ++ fillRecords file (versionOf state) n (fillPlace k 0)) (u .size) ∙ joined (suc left) (suc others) p (omega arith) (omega arith) u whole more′ n ∙ ap (λ (k : ℕ). fillRecords file (versionOf state) k (fillPlace (p .cursor) made)) sum in
-          rw e (onward (suc left) (suc others) p (omega arith) (omega arith) u whole more′ (rw same at enough) (taken state file left (suc others - rest) behind r) (rw (one, ← same, ← (u .size)) (later (rw e at is)))
+          let both = joined (suc left) (suc others) p (omega arith) (omega arith) u whole more′ n ∙ ap (λ (k : ℕ). fillRecords file (versionOf state) k (fillPlace (p .cursor) made)) sum in
+          rw e (onward (suc left) (suc others) p (omega arith) (omega arith) u whole more′ (rw same at enough) (taken state file left (suc others - rest) behind r) (rw (one, ← same) (later (rw e at is)))
           ∙ rw (both, index))
 
       go : (b : Bool) → leb (count (p .cursor)) made ≡ b → Others → gathered state file limit (suc left) (suc others) p ≡ ok (taken state file (suc left) (suc others) p (walk (suc left) (suc others) (p .cursor) made))
@@ -177,7 +196,9 @@ module _ (state : StreamPlayer) (file : List ℕ) (limit end : ℕ) (pooled : eq
           first later (u .0) (u .1) (u .2) some (ltb (suc others) rest) refl (fills-step file (widthOf state) (startsIn state) (endsIn state) end (suc left) (suc others) (p .cursor) made (omega arith) (omega arith) more ∙ rw one)
 
 -- with the ranges of a version and its cards, and the same limit or a later one
-pub fills-gathered : (state : StreamPlayer) (file : List ℕ) (limit later left room cursor writes : ℕ) (p : Progress) (r : FillPace) → limit ≤ later → limit ≤ length file → p .cursor ≡ cursor → p .«write_index» ≡ writes → r ≡ fillsPaced file (versionOf state) (cardsOf (state .cards)) limit left room cursor writes → r .taken ≡ true → gathered state file later left room p ≡ ok (taken state file left room p r)
+pub fills-gathered : (state : StreamPlayer) (file : List ℕ) (limit later left room cursor writes : ℕ) (p : Progress) (r : FillPace) → limit ≤ later → limit ≤ length file
+    → p .cursor ≡ cursor → p .«write_index» ≡ writes → r ≡ fillsPaced file (versionOf state) (cardsOf (state .cards)) limit left room cursor writes → r .taken ≡ true
+    → gathered state file later left room p ≡ ok (taken state file left room p r)
 unfolding fillsPaced
 fills-gathered state file limit later left room cursor writes p r most inside at done is passed =
     rw is (go (leb 2 (versionOf state) && leb (versionOf state) 4) refl (rw is at passed))

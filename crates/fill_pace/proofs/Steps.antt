@@ -10,8 +10,9 @@ use lib.Dec.{eqb, leb, ltb}
 use Rattle.format.specs.declared.card.CardRequirement.{CardRequirement}
 use Rattle.format.specs.Operation.{addressWidth}
 use Rattle.ranges.specs.Ranges.{startsOf, endsOf}
+use Rattle.fields.specs.Decoded.{decodedAt}
 use Rattle.fill_pace.specs.declared.FillPace.{FillPace}
-use Rattle.fill_pace.specs.Fills.{stoppedAt, countAt, sizeAt, fillsFrom, fillsPaced}
+use Rattle.fill_pace.specs.Fills.{stoppedAt, countAt, fillsFrom, fillsPaced}
 
 -- no more operations and no more room are left than there were
 abbrev pub Fewer : (left room : ℕ) → FillPace → Type 0
@@ -42,11 +43,15 @@ module _ (file : List ℕ) (width : ℕ) (starts ends : List ℕ) (limit : ℕ) 
         go (suc n) h = rw (ne-eqb room 0 (λ none. omega arith), e)
 
     -- an operation, then the others
-    pub fills-step : leb count writes ≡ false → fillsFrom file width starts ends limit left room cursor writes ≡ cond (ltb room (count - writes)) (stoppedAt true cursor left 0 (writes + room)) (fillsFrom file width starts ends limit (left - 1) (room - (count - writes)) (cursor + sizeAt file width cursor) 0)
+    pub fills-step : leb count writes ≡ false
+        → fillsFrom file width starts ends limit left room cursor writes
+        ≡ cond (ltb room (count - writes)) (stoppedAt true cursor left 0 (writes + room)) (fillsFrom file width starts ends limit (left - 1) (room - (count - writes)) (cursor + decodedAt width file cursor .size) 0)
     unfolding fillsFrom
     fills-step e = go left more
       where
-        go : (n : ℕ) → 0 < n → fillsFrom file width starts ends limit n room cursor writes ≡ cond (ltb room (count - writes)) (stoppedAt true cursor n 0 (writes + room)) (fillsFrom file width starts ends limit (n - 1) (room - (count - writes)) (cursor + sizeAt file width cursor) 0)
+        go : (n : ℕ) → 0 < n
+            → fillsFrom file width starts ends limit n room cursor writes
+            ≡ cond (ltb room (count - writes)) (stoppedAt true cursor n 0 (writes + room)) (fillsFrom file width starts ends limit (n - 1) (room - (count - writes)) (cursor + decodedAt width file cursor .size) 0)
         go zero h = absurd (not-suc-le-zero h)
         go (suc n) h =
             let less : suc n - 1 ≡ n = omega arith in
@@ -57,9 +62,10 @@ module _ (file : List ℕ) (width : ℕ) (starts ends : List ℕ) (limit : ℕ) 
   from-fewer zero room cursor writes = (omega arith, omega arith)
   from-fewer (suc left) room cursor writes =
       let rest : ℕ = countAt file width starts ends limit cursor - writes in
-      go (eqb room 0) (leb (countAt file width starts ends limit cursor) writes) (ltb room rest) rest _ (from-fewer left (room - rest) (cursor + sizeAt file width cursor) 0)
+      go (eqb room 0) (leb (countAt file width starts ends limit cursor) writes) (ltb room rest) rest _ (from-fewer left (room - rest) (cursor + decodedAt width file cursor .size) 0)
     where
-      go : (full none short : Bool) (rest : ℕ) (onward : FillPace) → Fewer left (room - rest) onward → Fewer (suc left) room (cond full (stoppedAt true cursor (suc left) room writes) (cond none (stoppedAt false cursor (suc left) room writes) (cond short (stoppedAt true cursor (suc left) 0 (writes + room)) onward)))
+      go : (full none short : Bool) (rest : ℕ) (onward : FillPace) → Fewer left (room - rest) onward
+          → Fewer (suc left) room (cond full (stoppedAt true cursor (suc left) room writes) (cond none (stoppedAt false cursor (suc left) room writes) (cond short (stoppedAt true cursor (suc left) 0 (writes + room)) onward)))
       go true none short rest onward f = (omega arith, omega arith)
       go false true short rest onward f = (omega arith, omega arith)
       go false false true rest onward f = (omega arith, omega arith)

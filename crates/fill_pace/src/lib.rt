@@ -1,19 +1,24 @@
 // The WRITEs and FILLs that are left of a part, as far as there is room for their writes. Each is compared with a table of ranges,
 // without a branch on its opcode, because a file's opcodes need not follow any pattern.
-use big_endian::byte_at;
-use big_endian::read_u32;
+use big_endian::passes;
 use big_endian::window;
-use fill_records::by_opcode;
+use fields::address_in;
+use fields::address_width;
+use fields::opcode_in;
+use fields::target_in;
+use fields_known::fill_length_in;
+use fields_known::fill_size_in;
 use format::CardTable;
+use format::OPERATION_MOST;
 use quick_rules::out_of_bulk;
 use ranges::RANGES;
 use ranges::address_ranges;
-use widths::address_width;
 ghost use mathlib.Core.Path.{_≡_};
 ghost use Prim.Native.Nat.{_≤_};
 ghost use lib.ListN.{length};
 ghost use Rattle.format.specs.Card.{cardsOf};
-ghost use Rattle.fill_pace.specs.Fills.{addressBy, fillCount, stoppedAt, fillsFrom, fillsPaced};
+ghost use Rattle.fields.specs.Decoded.{decodedOperation};
+ghost use Rattle.fill_pace.specs.Fills.{fillCount, stoppedAt, fillsFrom, fillsPaced};
 
 // Where the player stops: the cursor, the operations and the room that are left, and the writes made of the operation at the cursor.
 // `taken` is false where it stops at an operation that is no WRITE or FILL, that is not allowed, or whose writes are all made.
@@ -37,30 +42,21 @@ fn stopped(taken: bool, cursor: usize, left: u32, room: usize, writes: u32) -> F
     }
 }
 
-// An address by the number in four bytes, of which it has the first three or all. The shift is the same for all operations of a file.
-fn address_by(width: usize, four: u32) -> u32
-    requires { ⌜ (3 ≤ width) × (width ≤ 4) ⌝ }
-    ensures { λ r. ⌜ r ≡ addressBy width four ⌝ }
-{
-    let spare = 8 * (4 - width as u32);
-    four >> spare
-}
-
 // How many writes the operation in 16 bytes makes if it is a WRITE or a FILL that the ranges allow, else 0.
 fn fill_count(bytes: &[u8], width: usize, starts: &[u32; RANGES], ends: &[u64; RANGES]) -> u32
     requires { ⌜ (3 ≤ width) × (width ≤ 4) ⌝ }
-    ensures { λ r. ⌜ r ≡ fillCount width (now (bytes .entry)) (now (starts .entry)) (now (ends .entry)) ⌝ }
+    ensures { λ r. ⌜ r ≡ fillCount (decodedOperation width (now (bytes .entry))) (now (starts .entry)) (now (ends .entry)) ⌝ }
 {
-    let opcode = byte_at(bytes, 0);
-    let target = byte_at(bytes, 1);
+    let opcode = opcode_in(bytes);
+    let target = target_in(bytes);
     if 1 < opcode {
         return 0;
     }
     if 15 < target {
         return 0;
     }
-    let address = address_by(width, read_u32(bytes, 2));
-    let count = by_opcode(opcode, 1, read_u32(bytes, 2 + width));
+    let address = address_in(bytes, width);
+    let count = fill_length_in(bytes, width);
     let k = 16 * opcode as usize + target as usize;
     if out_of_bulk(address, count, starts[k], ends[k]) {
         return 0;
@@ -91,10 +87,7 @@ fn fills_from(
         if free == 0 {
             return stopped(true, at, others, free, done);
         }
-        if limit < 16 {
-            return stopped(false, at, others, free, done);
-        }
-        if limit - 16 < at {
+        if passes(limit, at, OPERATION_MOST) {
             return stopped(false, at, others, free, done);
         }
         let bytes = window(file, at);
@@ -107,7 +100,7 @@ fn fills_from(
             return stopped(true, at, others, 0, done + free as u32);
         }
         free -= rest as usize;
-        at += 3 + width + 4 * byte_at(bytes, 0) as usize;
+        at += fill_size_in(bytes, width);
         others -= 1;
         done = 0;
     }

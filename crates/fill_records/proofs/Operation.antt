@@ -7,14 +7,16 @@ use native.Mathlib.Omega.{arith}
 use borrow.Author.Tests.{lt-ltb, le-ltb}
 use lib.ListN.{length, take, drop, replicate}
 use Rattle.format.specs.declared.operation.WriteRecord.{WriteRecord}
-use Rattle.format.specs.Bytes.{byte, be, part}
+use Rattle.format.specs.Bytes.{byte, part}
 use Rattle.format.specs.Operation.{addressWidth}
-use Rattle.format.specs.Writes.{write, upward}
-use Rattle.format.proofs.Bytes.{byte-part, be-part}
 use Rattle.format.proofs.Sizes.{width-range}
+use Rattle.format.specs.Writes.{write, upward}
+use Rattle.fields.specs.declared.decode.Decoded.{Decoded}
+use Rattle.fields.specs.Decoded.{decodedAt, decodedOperation}
+use Rattle.fields_known.proofs.Laws.{fill-length, fill-size}
 use Rattle.fill_records.specs.declared.FillPlace.{FillPlace}
-use Rattle.fill_records.specs.Records.{byOpcode, fillPlace, nextFill, fillRecords, placeAfter}
-use Rattle.fill_records.proofs.Records.{length-small, after-next}
+use Rattle.fill_records.specs.Records.{fillPlace, nextFill, fillRecords, placeAfter}
+use Rattle.fill_records.proofs.Records.{after-next}
 
 -- WRITES OF ONE VALUE
 
@@ -32,25 +34,6 @@ module _ (target value : ℕ) where
   unfolding upward
   take-upward zero m address = refl
   take-upward (suc n) m address = rw (suc-add n m) (ap (λ (l : List WriteRecord). write target address value ∷ l) (take-upward n m (address + 1)))
-
--- THE OPERATION AT A PLACE
-
-abbrev pub targetAt : List ℕ → (at : ℕ) → ℕ
-targetAt file at = byte file (at + 1)
-
-abbrev pub addressAt : List ℕ → (width at : ℕ) → ℕ
-addressAt file width at = be width file (at + 2)
-
-abbrev pub valueAt : List ℕ → (width at : ℕ) → ℕ
-valueAt file width at = byte file (at + (2 + width + byOpcode (byte file at) 0 4))
-
--- how many writes it makes
-abbrev pub writesAt : List ℕ → (width at : ℕ) → ℕ
-writesAt file width at = byOpcode (byte file at) 1 (be 4 file (at + (2 + width)))
-
--- the place behind it
-abbrev pub behindAt : List ℕ → (width at : ℕ) → ℕ
-behindAt file width at = at + (3 + width + byOpcode (byte file at) 0 4)
 
 -- WITHIN AN OPERATION
 
@@ -91,37 +74,54 @@ module _ (file : List ℕ) (version : ℕ) where
   records-fresh (suc n) p none = rw (next-fresh p none)
 
   module _ (at made : ℕ) (inside : at + 16 ≤ length file) where
-    abbrev width : ℕ
-    width = addressWidth version
+    -- the operation there
+    abbrev item : Decoded
+    item = decodedAt (addressWidth version) file at
 
-    abbrev first : FillPlace
-    first =
-        record { target = targetAt file at; address = (addressAt file width at + made) % 2 ^ 32; value = valueAt file width at; left = writesAt file width at - made - 1; cursor = behindAt file width at; made = 0 }
+    module _ (low : item .opcode ≤ 1) (more : made < item .length) (small : item .address + item .length ≤ 2 ^ 32) where
+      -- its first record, by the reader's numbers
+      abbrev first : FillPlace
+      first =
+          record {
+            target = item .target;
+            address = (item .address + made) % 2 ^ 32;
+            value = item .value;
+            left = item .length - made - 1;
+            cursor = at + item .size;
+            made = 0;
+          }
 
-    first-is : nextFill file version (fillPlace at made) ≡ first
-    unfolding nextFill
-    first-is =
-        let range = width-range version in
-        let opcode : byte (part file at 16) 0 ≡ byte file at = byte-part file at 16 0 (omega arith) ∙ rw add-zero in
-        rw (le-ltb _ _ inside, opcode, byte-part file at 16 1 (omega arith), be-part width file at 16 2 (omega arith), be-part 4 file at 16 (2 + width) (omega arith), byte-part file at 16 (2 + width + byOpcode (byte file at) 0 4) (omega (arith, length-small (byte file at))))
+      first-is : nextFill file version (fillPlace at made) ≡ first
+      unfolding nextFill
+      first-is =
+          let range = width-range version in
+          let bytes = part file at 16 in
+          let opcode : byte bytes 0 ≤ 1 = unfold decodedOperation in low in
+          rw (le-ltb _ _ inside, fill-length (addressWidth version) bytes opcode, fill-size (addressWidth version) bytes opcode (range .0) (range .1))
 
-    module _ (more : made < writesAt file width at) (small : addressAt file width at + writesAt file width at ≤ 2 ^ 32) where
-      wraps : (addressAt file width at + made) % 2 ^ 32 ≡ addressAt file width at + made
+      wraps : (item .address + made) % 2 ^ 32 ≡ item .address + made
       wraps = mod-eq-of-lt (omega arith)
 
       -- so many of those that are not made yet
-      pub operation-records : (n : ℕ) → made + n ≤ writesAt file width at → fillRecords file version n (fillPlace at made) ≡ upward (targetAt file at) (addressAt file width at + made) (replicate n (valueAt file width at))
+      pub operation-records : (n : ℕ) → made + n ≤ item .length
+          → fillRecords file version n (fillPlace at made) ≡ upward (item .target) (item .address + made) (replicate n (item .value))
       unfolding fillRecords upward
       operation-records zero few = refl
       operation-records (suc n) few =
-          rw (first-is, wraps) (ap (λ (l : List WriteRecord). write (targetAt file at) (addressAt file width at + made) (valueAt file width at) ∷ l) (further-records n (record { target = targetAt file at; address = addressAt file width at + made; value = valueAt file width at; left = writesAt file width at - made - 1; cursor = behindAt file width at; made = 0 }) (omega arith) (omega arith)))
+          rw (first-is, wraps)
+          (ap (λ (l : List WriteRecord). write (item .target) (item .address + made) (item .value) ∷ l)
+          (further-records n
+          (record { target = item .target; address = item .address + made; value = item .value; left = item .length - made - 1; cursor = at + item .size; made = 0 })
+          (omega arith)
+          (omega arith)))
 
       -- behind all of them
-      pub operation-after : (n : ℕ) → fillRecords file version n (placeAfter file version (writesAt file width at - made) (fillPlace at made)) ≡ fillRecords file version n (fillPlace (behindAt file width at) 0)
+      pub operation-after : (n : ℕ)
+          → fillRecords file version n (placeAfter file version (item .length - made) (fillPlace at made)) ≡ fillRecords file version n (fillPlace (at + item .size) 0)
       unfolding placeAfter
       operation-after n =
-          let others : ℕ = writesAt file width at - made - 1 in
-          let one : writesAt file width at - made ≡ suc others = omega arith in
+          let others : ℕ = item .length - made - 1 in
+          let one : item .length - made ≡ suc others = omega arith in
           let last = sym (after-next file version others (fillPlace at made)) ∙ ap (placeAfter file version others) first-is ∙ further-after others first (omega arith) (omega (arith, wraps)) in
           let none : others - others ≡ 0 = omega arith in
           rw (one, last) (records-fresh n (further others first) none)

@@ -1,23 +1,13 @@
 -- Laws of the records of WRITEs and FILLs: how many they are, each of them, and how they go on behind some of them.
-use Prim.Native.Nat.{ℕ, zero, suc, _+_, _≤_, _<_}
-use mathlib.Core.Bool.{Bool, true, false, cond}
+use Prim.Native.Nat.{ℕ, zero, suc, _+_, _<_}
 use mathlib.Core.List.{List, _++_, _∷_}
 use mathlib.Core.Path.{_≡_, refl, ap, _∙_}
 use native.Mathlib.Nat.{zero-add, suc-add}
 use native.Mathlib.Omega.{arith}
-use lib.Dec.{eqb}
 use lib.ListN.{length, getD}
 use Rattle.format.specs.declared.operation.WriteRecord.{WriteRecord}
 use Rattle.fill_records.specs.declared.FillPlace.{FillPlace}
-use Rattle.fill_records.specs.Records.{byOpcode, nextFill, recordOf, fillRecords, placeAfter}
-
--- a length has four bytes at most
-pub length-small : (opcode : ℕ) → byOpcode opcode 0 4 ≤ 4
-length-small opcode = go (eqb opcode 0)
-  where
-    go : (b : Bool) → cond b 0 4 ≤ 4
-    go true = omega arith
-    go false = omega arith
+use Rattle.fill_records.specs.Records.{nextFill, recordOf, fillRecords, placeAfter}
 
 module _ (file : List ℕ) (version : ℕ) where
   pub records-long : (n : ℕ) (p : FillPlace) → length (fillRecords file version n p) ≡ n
@@ -42,4 +32,5 @@ module _ (file : List ℕ) (version : ℕ) where
   unfolding fillRecords placeAfter
   records-join zero n p = rw (zero-add n)
   records-join (suc m) n p =
-      rw (suc-add m n) (ap (λ (l : List WriteRecord). recordOf (nextFill file version p) ∷ l) (records-join m n (nextFill file version p) ∙ ap (λ (q : FillPlace). fillRecords file version m (nextFill file version p) ++ fillRecords file version n q) (after-next m p)))
+      rw (suc-add m n) (ap (λ (l : List WriteRecord). recordOf (nextFill file version p) ∷ l)
+      (records-join m n (nextFill file version p) ∙ ap (λ (q : FillPlace). fillRecords file version m (nextFill file version p) ++ fillRecords file version n q) (after-next m p)))

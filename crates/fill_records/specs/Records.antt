@@ -3,25 +3,16 @@
 use Prim.Native.Nat.{ℕ, zero, suc, _+_, _-_, _%_, _^_}
 use mathlib.Core.Bool.{cond}
 use mathlib.Core.List.{List, [], _∷_}
-use lib.Dec.{eqb, ltb}
+use lib.Dec.{ltb}
 use lib.ListN.{length}
 use Rattle.format.specs.declared.operation.WriteRecord.{WriteRecord}
-use Rattle.format.specs.Bytes.{byte, be, part}
+use Rattle.format.specs.Bytes.{part}
 use Rattle.format.specs.Operation.{addressWidth}
+use Rattle.format.specs.Size.{operationMost}
 use Rattle.format.specs.Writes.{write}
+use Rattle.fields.specs.Decoded.{decodedOperation}
+use Rattle.fields_known.specs.Known.{fillLength, fillSize}
 use Rattle.fill_records.specs.declared.FillPlace.{FillPlace}
-
--- one number for a WRITE and another for a FILL
-abbrev pub byOpcode : (opcode write fill : ℕ) → ℕ
-byOpcode opcode write fill = cond (eqb opcode 0) write fill
-
--- how many writes the operation in some bytes makes
-abbrev pub writesIn : (width : ℕ) → List ℕ → ℕ
-writesIn width bytes = byOpcode (byte bytes 0) 1 (be 4 bytes (2 + width))
-
--- how many bytes its length has
-abbrev pub lengthIn : List ℕ → ℕ
-lengthIn bytes = byOpcode (byte bytes 0) 0 4
 
 -- before the records of the operation at a cursor, of which so many are made
 abbrev pub fillPlace : (cursor made : ℕ) → FillPlace
@@ -32,17 +23,25 @@ abbrev pub following : FillPlace → FillPlace
 following p =
     record { target = p .target; address = (p .address + 1) % 2 ^ 32; value = p .value; left = p .left - 1; cursor = p .cursor; made = p .made }
 
--- the first record of the operation in some bytes that is not made yet
-abbrev pub decodedFill : List ℕ → (width : ℕ) → FillPlace → FillPlace
-decodedFill bytes width p =
-    record { target = byte bytes 1; address = (be width bytes 2 + p .made) % 2 ^ 32; value = byte bytes (2 + width + lengthIn bytes); left = writesIn width bytes - p .made - 1; cursor = p .cursor + (3 + width + lengthIn bytes); made = 0 }
+-- the first record that is not made yet of the WRITE or FILL in some bytes
+abbrev pub firstRecord : (width : ℕ) → List ℕ → FillPlace → FillPlace
+firstRecord width bytes p =
+    let item = decodedOperation width bytes in
+    record {
+      target = item .target;
+      address = (item .address + p .made) % 2 ^ 32;
+      value = item .value;
+      left = fillLength width bytes - p .made - 1;
+      cursor = p .cursor + fillSize width bytes;
+      made = 0;
+    }
 
 -- the next record; where fewer than 16 bytes stand at the cursor there is none
 unfoldable pub nextFill : List ℕ → (version : ℕ) → FillPlace → FillPlace
 nextFill file version p =
     cond (ltb 0 (p .left)) (following p)
     (cond (ltb (length file) (p .cursor + 16)) (fillPlace (p .cursor) (p .made))
-    (decodedFill (part file (p .cursor) 16) (addressWidth version) p))
+    (firstRecord (addressWidth version) (part file (p .cursor) operationMost) p))
 
 -- a place's record
 abbrev pub recordOf : FillPlace → WriteRecord

@@ -1,15 +1,18 @@
 // The records of successive WRITEs and FILLs, one after the other. An operation is decoded when its first record comes, and no rule is
 // checked again: this is for operations that an earlier pass has checked.
-use big_endian::byte_at;
-use big_endian::read_u32;
+use big_endian::passes;
 use big_endian::window;
+use fields::address_in;
+use fields::address_width;
+use fields::target_in;
+use fields::value_in;
+use fields_known::fill_length_in;
+use fields_known::fill_size_in;
+use format::OPERATION_MOST;
 use std::num::wrapping_add_u32;
-use widths::address_width;
-use widths::read_address;
-use writes::passes;
 ghost use mathlib.Core.Path.{_≡_};
 ghost use Prim.Native.Nat.{_+_, _-_, _^_, _≤_, _<_};
-ghost use Rattle.fill_records.specs.Records.{byOpcode, fillPlace, following, decodedFill, nextFill};
+ghost use Rattle.fill_records.specs.Records.{fillPlace, following, firstRecord, nextFill};
 
 // A record's target, address and value, and how many more the operation makes behind it. Where none is left, the next operation stands
 // at the cursor, and `made` of its records are passed over.
@@ -51,16 +54,6 @@ fn following(place: FillPlace) -> FillPlace
     }
 }
 
-// One number for a WRITE and another for a FILL. Both are there, so that this is a choice and not a branch once it is compiled.
-pub fn by_opcode(opcode: u8, write: u32, fill: u32) -> u32
-    ensures { λ r. ⌜ r ≡ byOpcode opcode write fill ⌝ }
-{
-    if opcode == 0 {
-        return write;
-    }
-    fill
-}
-
 // How many records come behind the first one that is not made yet.
 fn others(count: u32, made: u32) -> u32
     ensures { λ r. ⌜ r ≡ count - made - 1 ⌝ }
@@ -71,20 +64,17 @@ fn others(count: u32, made: u32) -> u32
     count - made - 1
 }
 
-// The first record of the operation in 16 bytes that is not made yet.
-fn decoded(bytes: &[u8], width: usize, place: FillPlace) -> FillPlace
+// The first record that is not made yet of the WRITE or FILL in some bytes.
+fn first_record(bytes: &[u8], width: usize, place: FillPlace) -> FillPlace
     requires { ⌜ (3 ≤ width) × (width ≤ 4) × (place .cursor + 16 < 2 ^ 64) ⌝ }
-    ensures { λ r. ⌜ r ≡ decodedFill (now (bytes .entry)) width place ⌝ }
+    ensures { λ r. ⌜ r ≡ firstRecord width (now (bytes .entry)) place ⌝ }
 {
-    let opcode = byte_at(bytes, 0);
-    let length = read_u32(bytes, 2 + width);
-    let extra = by_opcode(opcode, 0, 4) as usize;
     FillPlace {
-        target: byte_at(bytes, 1),
-        address: wrapping_add_u32(read_address(bytes, width, 2), place.made),
-        value: byte_at(bytes, 2 + width + extra),
-        left: others(by_opcode(opcode, 1, length), place.made),
-        cursor: place.cursor + (3 + width + extra),
+        target: target_in(bytes),
+        address: wrapping_add_u32(address_in(bytes, width), place.made),
+        value: value_in(bytes, width),
+        left: others(fill_length_in(bytes, width), place.made),
+        cursor: place.cursor + fill_size_in(bytes, width),
         made: 0,
     }
 }
@@ -96,8 +86,9 @@ pub fn next_fill(file: &[u8], version: u8, place: FillPlace) -> FillPlace
     if 0 < place.left {
         return following(place);
     }
-    if passes(file.len(), place.cursor, 16) {
+    if passes(file.len(), place.cursor, OPERATION_MOST) {
         return fill_place(place.cursor, place.made);
     }
-    decoded(window(file, place.cursor), address_width(version), place)
+    let width = address_width(version);
+    first_record(window(file, place.cursor), width, place)
 }

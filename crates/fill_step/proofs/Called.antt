@@ -15,7 +15,7 @@ use Rattle.format.specs.Player.{placed, Gathered, Played, call}
 use Rattle.format.specs.State.{moved}
 use Rattle.current.specs.declared.Current.{Current}
 use Rattle.current.specs.declared.Step.{Step}
-use Rattle.current.specs.Current.{currentOf, playing}
+use Rattle.current.specs.Current.{currentOf, leftOf, playing}
 use Rattle.current.specs.Step.{noStep, stepTo, stepped}
 use Rattle.current.proofs.Going.{current-going}
 use Rattle.current.proofs.Stepped.{limitOf, going-within, taken-writes, step-played}
@@ -24,13 +24,13 @@ use Rattle.fill_pace.specs.declared.FillPace.{FillPace}
 use Rattle.fill_pace.specs.Fills.{fillsPaced}
 use Rattle.fill_pace.proofs.Gathered.{fills-gathered}
 use Rattle.fill_pace.proofs.Steps.{fills-fewer}
-use Rattle.fill_step.specs.FillStep.{leftOf, fillStep}
+use Rattle.fill_step.specs.FillStep.{fillStep}
 
 -- WHERE THE PLAYER THEN IS
 
 module _ (file : List ℕ) (version : ℕ) (cards : List CardRequirement) (c : Current) (room : ℕ) where
   abbrev reached : FillPace
-  reached = fillsPaced file version cards (c .limit) (leftOf c) room (c .cursor) (c .«write_index»)
+  reached = fillsPaced file version cards (c .limit) (leftOf c) room (c .at .cursor) (c .at .«write_index»)
 
   -- a step that is taken goes there
   record Takes (step : Step) : Type 0 where
@@ -40,9 +40,11 @@ module _ (file : List ℕ) (version : ℕ) (cards : List CardRequirement) (c : C
 
   fill-takes : (step : Step) → step ≡ fillStep file version cards c room → step .taken ≡ true → Takes step
   unfolding fillStep
-  fill-takes step s taken = go (c .none) refl (ltb 1 (byte file (c .cursor))) (reached .taken) refl s
+  fill-takes step s taken = go (c .none) refl (ltb 1 (byte file (c .at .cursor))) (reached .taken) refl s
     where
-      go : (none : Bool) → c .none ≡ none → (copy : Bool) → (passed : Bool) → reached .taken ≡ passed → step ≡ cond none noStep (cond copy noStep (cond (not passed) noStep (stepTo c (reached .left) (reached .cursor) (reached .writes) 0 (room - reached .room) (room - reached .room)))) → Takes step
+      go : (none : Bool) → c .none ≡ none → (copy : Bool) → (passed : Bool) → reached .taken ≡ passed
+          → step ≡ cond none noStep (cond copy noStep (cond (not passed) noStep (stepTo c (reached .left) (reached .cursor) (reached .writes) 0 (room - reached .room) (room - reached .room))))
+          → Takes step
       go false there false true passed h = record { there = there; passed = passed; is = h }
       go false there false false passed h = absurd (false≢true (rw h at taken))
       go false there true passed p h = absurd (false≢true (rw h at taken))
@@ -67,7 +69,8 @@ abbrev pub answerOf : StreamPlayer → List ℕ → Step → Played
 answerOf state file step =
     record { records = fillRecords file (state .header .version) (step .others) (fillPlace (step .from) (step .made)); complete = step .complete; next = moved state (stepped (state .progress) step) }
 
-pub fill-call : (state : StreamPlayer) (file : List ℕ) (room : ℕ) (c : Current) (step : Step) → c ≡ currentOf file (state .header) (state .cards .count) (state .progress) → step ≡ fillStep file (state .header .version) (cardsOf (state .cards)) c room → step .taken ≡ true → call state file room ≡ ok (answerOf state file step)
+pub fill-call : (state : StreamPlayer) (file : List ℕ) (room : ℕ) (c : Current) (step : Step) → c ≡ currentOf file (state .header) (state .cards .count) (state .progress)
+    → step ≡ fillStep file (state .header .version) (cardsOf (state .cards)) c room → step .taken ≡ true → call state file room ≡ ok (answerOf state file step)
 fill-call state file room c step e s taken =
     let version = state .header .version in
     let cards = cardsOf (state .cards) in
@@ -77,8 +80,14 @@ fill-call state file room c step e s taken =
     let going = current-going state file c e (takes .there) in
     let q : Progress = playing (state .progress) c in
     let writes = taken-writes c (r .left) (r .cursor) (r .writes) 0 count count step (takes .is) taken in
-    let fewer = fills-fewer file version cards (c .limit) (leftOf c) room (c .cursor) (c .«write_index») r refl in
-    let index : c .«operation_index» + (leftOf c - r .left) ≡ c .«operation_count» - r .left = omega (arith, going .counted, fewer .0) in
-    let gathers = fills-gathered state file (c .limit) (limitOf state file c) (leftOf c) room (c .cursor) (c .«write_index») q r (going-within state file c going) (going .inside) refl refl refl (takes .passed) in
-    let placed′ = ap {B = Checked Gathered} (λ (n : ℕ). ok (record { records = fillRecords file version count (fillPlace (c .cursor) (c .«write_index»)); room = r .room; progress = placed q (r .cursor) n (r .writes) (state .progress .«wave_sources») })) index in
-    rw (writes .otherwise, writes .from, writes .begun) (step-played state file room c (r .left) (r .cursor) (r .writes) 0 count count step e (takes .there) (fillRecords file version count (fillPlace (c .cursor) (c .«write_index»))) (r .room) (gathers ∙ placed′) (fewer .0) (takes .is) taken)
+    let fewer = fills-fewer file version cards (c .limit) (leftOf c) room (c .at .cursor) (c .at .«write_index») r refl in
+    let index : c .at .«operation_index» + (leftOf c - r .left) ≡ c .at .«operation_count» - r .left = omega (arith, going .counted, fewer .0) in
+    let gathers = fills-gathered state file (c .limit) (limitOf state file c) (leftOf c) room (c .at .cursor) (c .at .«write_index») q r (going-within state file c going) (going .inside) refl refl refl (takes .passed) in
+    let placed′ =
+    ap {B = Checked Gathered} (λ (n : ℕ). ok (record {
+      records = fillRecords file version count (fillPlace (c .at .cursor) (c .at .«write_index»));
+      room = r .room;
+      progress = placed q (r .cursor) n (r .writes) (state .progress .«wave_sources»);
+    })) index in
+    rw (writes .otherwise, writes .from, writes .begun) (step-played state file room c (r .left) (r .cursor) (r .writes) 0 count count step e (takes .there)
+    (fillRecords file version count (fillPlace (c .at .cursor) (c .at .«write_index»))) (r .room) (gathers ∙ placed′) (fewer .0) (takes .is) taken)

@@ -7,13 +7,10 @@ use Rattle.format.specs.declared.card.CardRequirement.{CardRequirement}
 use Rattle.format.specs.Bytes.{byte}
 use Rattle.current.specs.declared.Current.{Current}
 use Rattle.current.specs.declared.Step.{Step}
+use Rattle.current.specs.Current.{leftOf}
 use Rattle.current.specs.Step.{noStep, stepTo}
 use Rattle.fill_pace.specs.declared.FillPace.{FillPace}
 use Rattle.fill_pace.specs.Fills.{fillsPaced}
-
--- the operations that are left of a part
-abbrev pub leftOf : Current → ℕ
-leftOf c = c .«operation_count» - c .«operation_index»
 
 -- the step to where the player then is
 abbrev pub fillStepBy : Current → (room : ℕ) → FillPace → Step
@@ -24,5 +21,5 @@ fillStepBy c room paced =
 unfoldable pub fillStep : List ℕ → (version : ℕ) → List CardRequirement → Current → (room : ℕ) → Step
 fillStep file version cards c room =
     cond (c .none) noStep
-    (cond (ltb 1 (byte file (c .cursor))) noStep
-    (fillStepBy c room (fillsPaced file version cards (c .limit) (leftOf c) room (c .cursor) (c .«write_index»))))
+    (cond (ltb 1 (byte file (c .at .cursor))) noStep
+    (fillStepBy c room (fillsPaced file version cards (c .limit) (leftOf c) room (c .at .cursor) (c .at .«write_index»))))

@@ -7,6 +7,7 @@ use current::no_step;
 use current::step_to;
 use fill_pace::pace_fills;
 use format::CardTable;
+use state::operations_left;
 ghost use mathlib.Core.Path.{_≡_};
 ghost use Prim.Native.Nat.{_≤_};
 ghost use lib.ListN.{length};
@@ -15,16 +16,17 @@ ghost use Rattle.fill_step.specs.FillStep.{fillStep};
 
 // The step of a call with room for so many records. A part whose next operation is a COPY is not taken, before any table is made.
 pub fn fill_step(file: &[u8], version: u8, cards: CardTable, current: Current, room: usize) -> Step
-    requires { ⌜ (current .limit ≤ length (now file)) × (current .«operation_index» ≤ current .«operation_count») ⌝ }
+    requires { ⌜ current .limit ≤ length (now file) ⌝ }
     ensures { λ r. ⌜ r ≡ fillStep (now (file .entry)) version (cardsOf cards) current room ⌝ }
 {
     if current.none {
         return no_step();
     }
-    if 1 < byte_at(file, current.cursor) {
+    let at = current.at;
+    if 1 < byte_at(file, at.cursor) {
         return no_step();
     }
-    let left = current.operation_count - current.operation_index;
+    let left = operations_left(at.operation_index, at.operation_count);
     let paced = pace_fills(
         file,
         version,
@@ -32,8 +34,8 @@ pub fn fill_step(file: &[u8], version: u8, cards: CardTable, current: Current, r
         current.limit,
         left,
         room,
-        current.cursor,
-        current.write_index,
+        at.cursor,
+        at.write_index,
     );
     if !paced.taken {
         return no_step();

@@ -137,7 +137,7 @@ rest-accepted file header s e h =
     given (Accepted file header) (k .1) (made-accepted file header (a .value) (d .value) (g .value) (j .value) (a .is) (b .0) (c .0) (d .is) (f .0) (g .is) (i .0) (j .is) (k .0))
 
 -- the header
-header-passed : (file : List ℕ) (header : Header) → headerFrom file ≡ ok header → (header ≡ headerOf file) × HeaderPassed file
+pub header-passed : (file : List ℕ) (header : Header) → headerFrom file ≡ ok header → (header ≡ headerOf file) × HeaderPassed file
 unfolding headerFrom flagsWrong
 header-passed file header e =
     let v = byte file 4 in

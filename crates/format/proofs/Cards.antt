@@ -1,6 +1,6 @@
--- Laws of card tables.
-use Prim.Native.Nat.{ℕ, _+_, _≤_, _<_, min}
-use mathlib.Core.Path.{_≡_, refl, sym, _∙_}
+-- Laws of the cards of a file and of card tables: how many there are, which a table holds, and the search for a slot.
+use Prim.Native.Nat.{ℕ, zero, suc, _+_, _≤_, _<_, min}
+use mathlib.Core.Path.{_≡_, refl, sym, ap, _∙_}
 use mathlib.Core.Bool.{Bool, true, false, cond}
 use mathlib.Core.List.{List, []}
 use native.Mathlib.Numerals.{add-one}
@@ -8,16 +8,34 @@ use native.Mathlib.Omega.{arith}
 use borrow.Author.Tests.{leb-true, leb-false}
 use lib.Dec.{eqb, leb}
 use lib.ListN.{length, getD, take, drop, length-map, length-take, drop-of-length-le}
-use lib.Seq.{drop-cons, getD-take, take-all}
+use lib.Seq.{drop-cons, getD-take, take-all, take-append-seam}
 use mir.Val.{Val}
 use denote.Laws.{Is}
 use denote.Struct.Declared as Declared
 use Rattle.format.specs.declared.card.CardRequirement.{CardRequirement}
 use Rattle.format.specs.declared.card.CardTable.{CardTable}
 use Rattle.targets.specs.declared.Target.the-variants.{Slot, Missing}
-use Rattle.format.specs.Card.{cardsOf}
+use Rattle.format.specs.Bytes.{byte}
+use Rattle.format.specs.Card.{cardsOf, cardsFrom}
+use Rattle.format.specs.Checked.{ok}
+use Rattle.format.specs.State.{tableOf}
 use Rattle.format.specs.Target.{slotTarget}
+use Rattle.format.proofs.Checks.{ok-is}
+use Rattle.format.proofs.Steps.{card-step}
 use Rattle.format.proofs.card.CardTable.{the-type}
+
+-- the cards of an accepted file are as many as its header says
+pub cards-count : (file : List ℕ) (count at least : ℕ) (cards : List CardRequirement) → cardsFrom file count at least ≡ ok cards → length cards ≡ count
+unfolding cardsFrom
+cards-count file zero at least cards e = ap length (sym (ok-is e))
+cards-count file (suc count) at least cards e =
+    let step = card-step file count at least cards e in
+    ap length (sym (step .is)) ∙ ap suc (cards-count file count (at + 32) (byte file at + 1) (step .others) (step .from))
+
+-- the table holds the cards
+pub table-cards : (cards : List CardRequirement) → cardsOf (tableOf cards) ≡ cards
+unfolding tableOf
+table-cards cards = take-append-seam cards _
 
 -- a table that a function is handed has eight cards: `vs` is what `c .good` says of the parameter
 pub eight : (table : CardTable) (vs : List Val) → Is (Declared.row the-type) table vs → length (table .cards) ≡ 8
@@ -40,7 +58,9 @@ abbrev pub pastCard : CardRequirement
 pastCard = record { slot = 0; «id_length» = 0; «id_offset» = 0; «bulk_start» = 0; «bulk_length» = 0; id = [] }
 
 -- the search for a slot from a card on: that card has it, or the cards behind decide
-pub slot-step : (cards : List CardRequirement) (n i slot : ℕ) → i < n → n ≤ length cards → slotTarget (drop i (take n cards)) slot ≡ cond (eqb (getD cards i pastCard .slot) slot) (Slot (getD cards i pastCard .«bulk_start») (getD cards i pastCard .«bulk_length»)) (slotTarget (drop (i + 1) (take n cards)) slot)
+pub slot-step : (cards : List CardRequirement) (n i slot : ℕ) → i < n → n ≤ length cards
+    → slotTarget (drop i (take n cards)) slot
+    ≡ cond (eqb (getD cards i pastCard .slot) slot) (Slot (getD cards i pastCard .«bulk_start») (getD cards i pastCard .«bulk_length»)) (slotTarget (drop (i + 1) (take n cards)) slot)
 unfolding slotTarget
 slot-step cards n i slot h within =
     let inside : i < length (take n cards) = simp length-take (omega arith) in

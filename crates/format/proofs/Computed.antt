@@ -5,18 +5,27 @@ use Rattle.format.specs.Card.{oneCardWrong, cardWrong, cardsFrom}
 use Rattle.format.specs.Header.{periodOf, cardCount, headerSize, plainHeader, pooledHeader, headerOf, reservedWrong, flagsWrong, periodWrong, headerFrom}
 use Rattle.format.specs.Listener.{answers, recordsFrom, vsyncsFrom}
 use Rattle.format.specs.Operation.{addressWidth, sizeOf, fieldsAt, copyWrong, writeRules, fillRules, copyRules, allowed, operationAt, recordAt, itemAt}
+use Rattle.format.specs.Next.{nextPart}
 use Rattle.format.specs.Player.{slotWrong, cardUsed, poolUsed, poolsUsed, itemUsed, wavesBy, gathered, frameBegun, playFrame, playOpening, playClosing, play, belongs, call}
 use Rattle.format.specs.Pool.{bankLimit, kindWrong, poolWrong, poolsFrom}
-use Rattle.format.specs.Repack.{toPcm, toCores, inOrder, runs, startsWave, pieces, isKnown, distinct, wavesOf, placeOf, repacked, repack}
+use Rattle.format.specs.Repack.{toPcm, toCores, inOrder, runs, startsWave, pieces, isKnown, added, distinct, wavesOf, placeOf, repacked, repack}
 use Rattle.format.specs.State.{tableOf, unplayed, playerOf, refusedPlayer, startedAs}
 use Rattle.format.specs.Stream.{operationsFrom, framesFrom, openingLimit, countsWrong, sectionsWrong, read}
 use Rattle.format.specs.Target.{slotTarget, targetOf, outside}
 use Rattle.format.specs.Writes.{upward, writesWith, writesOf, writesOfAll, anySi22, anyFrameSi22, silence, closingWrites, closing, vsync}
 use Rattle.format.specs.Written.{itemBytes, operationsBytes, framesBytes, cardsBytes, directoryBytes, payloadsBytes, bodyBytes, written}
 
--- the checks 1 to 20
+-- the checks 1 to 20: header and cards, pools and operations, all of them
+unfoldable readingHeader : ℕ
+unfolding be periodOf cardCount headerSize plainHeader pooledHeader headerOf reservedWrong flagsWrong periodWrong headerFrom oneCardWrong cardWrong cardsFrom
+readingHeader = 0
+
+unfoldable readingItems : ℕ
+unfolding bankLimit kindWrong poolWrong poolsFrom slotTarget targetOf outside addressWidth sizeOf fieldsAt copyWrong writeRules fillRules copyRules allowed operationAt recordAt itemAt
+readingItems = 0
+
 unfoldable pub reading : ℕ
-unfolding be oneCardWrong cardWrong cardsFrom periodOf cardCount headerSize plainHeader pooledHeader headerOf reservedWrong flagsWrong periodWrong headerFrom addressWidth sizeOf fieldsAt copyWrong writeRules fillRules copyRules allowed operationAt recordAt itemAt bankLimit kindWrong poolWrong poolsFrom operationsFrom framesFrom openingLimit countsWrong sectionsWrong read slotTarget targetOf outside
+unfolding readingHeader readingItems operationsFrom framesFrom openingLimit countsWrong sectionsWrong read
 reading = 0
 
 -- a stream as bytes
@@ -26,7 +35,7 @@ writing = 0
 
 -- a master as a stream of version 2
 unfoldable pub repacking : ℕ
-unfolding toPcm toCores inOrder runs startsWave pieces isKnown distinct wavesOf placeOf repacked repack
+unfolding toPcm toCores inOrder runs startsWave pieces isKnown added distinct wavesOf placeOf repacked repack
 repacking = 0
 
 -- the writes of each vsync
@@ -34,7 +43,11 @@ unfoldable pub listing : ℕ
 unfolding upward writesWith writesOf writesOfAll anySi22 anyFrameSi22 silence closingWrites closing vsync
 listing = 0
 
--- calls of a player, and what their answers say
+-- a player's start, its calls, and what their answers say
+unfoldable starting : ℕ
+unfolding tableOf unplayed playerOf refusedPlayer startedAs
+starting = 0
+
 unfoldable pub playing : ℕ
-unfolding answers recordsFrom vsyncsFrom tableOf unplayed playerOf refusedPlayer startedAs slotWrong cardUsed poolUsed poolsUsed itemUsed wavesBy gathered frameBegun playFrame playOpening playClosing play belongs call
+unfolding starting answers recordsFrom vsyncsFrom slotWrong cardUsed poolUsed poolsUsed itemUsed wavesBy gathered frameBegun playFrame playOpening playClosing nextPart play belongs call
 playing = 0

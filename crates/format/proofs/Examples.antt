@@ -13,7 +13,8 @@ none-fails : failing 1 table ≡ []
 unfolding failing table empty emptyRepacked withRecord withFill reading writing repacking listing
 none-fails = refl
 
-row-holds : (n : ℕ) (row : Row) (rows : List Row) (b : Bool) → sameBytes (row .found) (row .expected) ≡ b → cond b (failing (suc n) rows) (n ∷ failing (suc n) rows) ≡ [] → (row .found ≡ row .expected) × (failing (suc n) rows ≡ [])
+row-holds : (n : ℕ) (row : Row) (rows : List Row) (b : Bool) → sameBytes (row .found) (row .expected) ≡ b
+    → cond b (failing (suc n) rows) (n ∷ failing (suc n) rows) ≡ [] → (row .found ≡ row .expected) × (failing (suc n) rows ≡ [])
 row-holds n row rows true e h = (same-bytes (row .found) (row .expected) e, h)
 row-holds n row rows false e h = absurd (cons≢nil h)
 

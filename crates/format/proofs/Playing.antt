@@ -32,13 +32,22 @@ calls : List ℕ → List ℕ → List Call
 calls file rooms = map (λ (room : ℕ). record { file = file; room = room }) rooms
 
 -- P12 played by calls: no writes, then 32, then none; a lent file of another length is 25 until the player is finished
-p12 : map said (answers (started empty) (calls empty (0 ∷ 30 ∷ []) ++ calls [] (30 ∷ []) ++ calls empty (0 ∷ 2 ∷ 0 ∷ []) ++ calls [] (7 ∷ []))) ≡ (0 ∷ 1 ∷ []) ∷ (30 ∷ 0 ∷ []) ∷ (25 ∷ 0 ∷ 99 ∷ []) ∷ (0 ∷ 0 ∷ []) ∷ (2 ∷ 1 ∷ []) ∷ (0 ∷ 1 ∷ []) ∷ (0 ∷ 1 ∷ []) ∷ []
+p12 : map said (answers (started empty) (calls empty (0 ∷ 30 ∷ []) ++ calls [] (30 ∷ []) ++ calls empty (0 ∷ 2 ∷ 0 ∷ []) ++ calls [] (7 ∷ [])))
+    ≡ (0 ∷ 1 ∷ []) ∷ (30 ∷ 0 ∷ []) ∷ (25 ∷ 0 ∷ 99 ∷ []) ∷ (0 ∷ 0 ∷ []) ∷ (2 ∷ 1 ∷ []) ∷ (0 ∷ 1 ∷ []) ∷ (0 ∷ 1 ∷ []) ∷ []
 unfolding said calls empty reading writing listing playing
 p12 = refl
 
 -- a version 4 file with every kind of operation
 four : Stream
-four = record { version = 4; repeat = false; period = 0; cards = card ∷ []; pools = wave ∷ bank ∷ []; opening = Write 5 0x1FFFFFF 3 ∷ Fill 5 16 3 7 ∷ []; frames = (Copy 1 0x300 0 0 256 ∷ Write 11 0x3F 2 ∷ []) ∷ [] ∷ (Copy 5 20 1 1 2 ∷ []) ∷ [] }
+four = record {
+  version = 4;
+  repeat = false;
+  period = 0;
+  cards = card ∷ [];
+  pools = wave ∷ bank ∷ [];
+  opening = Write 5 0x1FFFFFF 3 ∷ Fill 5 16 3 7 ∷ [];
+  frames = (Copy 1 0x300 0 0 256 ∷ Write 11 0x3F 2 ∷ []) ∷ [] ∷ (Copy 5 20 1 1 2 ∷ []) ∷ [];
+}
 
 -- rooms that cut operations, and one that ends exactly with the opening
 rooms : List ℕ
@@ -71,7 +80,8 @@ foreign : List ℕ
 foreign = set (written four) (headerOf (written four) .«initial_start» + 7) 3
 
 -- it is 25 for the call that reads that operation, and no other: without room nothing is read
-foreign-four : map said (answers (started (written four)) (calls foreign (1 ∷ 0 ∷ 2 ∷ []) ++ calls (written four) (3 ∷ 0 ∷ []))) ≡ (1 ∷ 0 ∷ []) ∷ (0 ∷ 0 ∷ []) ∷ (25 ∷ 0 ∷ 99 ∷ []) ∷ (3 ∷ 0 ∷ []) ∷ (0 ∷ 0 ∷ []) ∷ []
+foreign-four : map said (answers (started (written four)) (calls foreign (1 ∷ 0 ∷ 2 ∷ []) ++ calls (written four) (3 ∷ 0 ∷ [])))
+    ≡ (1 ∷ 0 ∷ []) ∷ (0 ∷ 0 ∷ []) ∷ (25 ∷ 0 ∷ 99 ∷ []) ∷ (3 ∷ 0 ∷ []) ∷ (0 ∷ 0 ∷ []) ∷ []
 unfolding said foreign calls four reading writing listing playing
 foreign-four = refl
 
@@ -79,10 +89,20 @@ foreign-four = refl
 broken : CardRequirement → ℕ → StreamPlayer
 broken card writes =
     let state = started (written four) in
-    record { header = state .header; cards = tableOf (card ∷ []); «uses_si22» = true; progress = placed (openingBegun (state .header) (state .progress)) (headerOf (written four) .«initial_start») 0 writes (replicate 16 noWave) }
+    record {
+      header = state .header;
+      cards = tableOf (card ∷ []);
+      «uses_si22» = true;
+      progress = placed (openingBegun (state .header) (state .progress)) (headerOf (written four) .«initial_start») 0 writes (replicate 16 noWave);
+    }
 
-broken-four : map (λ (state : StreamPlayer). said (call state (written four) 1)) (broken card 0 ∷ broken (record { slot = 2; «id_length» = 0; «id_offset» = 0; «bulk_start» = 16; «bulk_length» = 300; id = replicate 16 0 }) 0 ∷ broken card 1 ∷ broken card 2 ∷ []) ≡ (1 ∷ 0 ∷ []) ∷ (25 ∷ 0 ∷ 99 ∷ []) ∷ (1 ∷ 0 ∷ []) ∷ (25 ∷ 0 ∷ 99 ∷ []) ∷ []
-unfolding said broken four reading writing listing playing
+-- a card without a name
+unnamed : CardRequirement
+unnamed = record { slot = 2; «id_length» = 0; «id_offset» = 0; «bulk_start» = 16; «bulk_length» = 300; id = replicate 16 0 }
+
+broken-four : map (λ (state : StreamPlayer). said (call state (written four) 1)) (broken card 0 ∷ broken unnamed 0 ∷ broken card 1 ∷ broken card 2 ∷ [])
+    ≡ (1 ∷ 0 ∷ []) ∷ (25 ∷ 0 ∷ 99 ∷ []) ∷ (1 ∷ 0 ∷ []) ∷ (25 ∷ 0 ∷ 99 ∷ []) ∷ []
+unfolding said broken unnamed four reading writing listing playing
 broken-four = refl
 
 -- the wave source of core 1, channel 3 after the COPY's first write, and not before

@@ -57,7 +57,8 @@ pub record CopyAllowed (pools : ℕ) (what : Target) (address id : ℕ) (pool : 
   pub right-kind : pool .kind ≡ kindFor what
   pub right : copyWrong what pool address source size ≡ false
 
-pub copy-allowed : (at version pools : ℕ) (what : Target) (address id : ℕ) (pool : Pool) (source size : ℕ) → copyRules at version pools what address id pool source size ≡ ok tt → CopyAllowed pools what address id pool source size
+pub copy-allowed : (at version pools : ℕ) (what : Target) (address id : ℕ) (pool : Pool) (source size : ℕ)
+    → copyRules at version pools what address id pool source size ≡ ok tt → CopyAllowed pools what address id pool source size
 unfolding copyRules copyWrong
 copy-allowed at version pools what address id pool source size e =
     let a = passed-test 15 at (missing what) e in
@@ -74,6 +75,13 @@ copy-allowed at version pools what address id pool source size e =
       right-kind = eqb-true _ _ (not-false _ (g .1));
       right = d .1;
     }
+
+-- what a COPY that is allowed keeps to
+pub copy-fine : (at version pools : ℕ) (target : Target) (address id : ℕ) (pool : Pool) (source size : ℕ)
+    → copyRules at version pools target address id pool source size ≡ ok tt → (id < pools) × (0 < size) × (source + size ≤ pool .size)
+copy-fine at version pools target address id pool source size e =
+    let rules = copy-allowed at version pools target address id pool source size e in
+    (rules .known, passes-inside target address size (rules .inside) .some, rules .in-pool)
 
 pub passes-takes : (what : Target) (pool : Payload) (entry : Pool) (address source size : ℕ) → EntryFor pool entry
     → copyWrong what entry address source size ≡ false → Takes what pool address source size

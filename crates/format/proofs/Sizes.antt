@@ -5,7 +5,7 @@ use mathlib.Core.Bool.{Bool, true, false, cond, _&&_}
 use mathlib.Core.List.{List, [], _∷_}
 use native.Mathlib.Nat.{le-of-suc-le-suc, not-suc-le-zero}
 use native.Mathlib.Omega.{arith}
-use borrow.Author.Tests.{eqb-true}
+use borrow.Author.Tests.{eqb-true, leb-true}
 use lib.Dec.{eqb, leb, lit≤}
 use lib.ListN.{getD}
 use Rattle.format.specs.Operation.{sizes, sizeOf, addressWidth}
@@ -51,6 +51,15 @@ size-is width opcode low high o = omega (arith, entry (width - 3) opcode (omega 
 pub size-at : (width opcode : ℕ) → 3 ≤ width → width ≤ 4 → opcode ≤ 2 → getD (getD rows (width - 3) []) opcode 0 ≡ sizeOf width opcode
 unfolding sizeOf
 size-at width opcode low high o = entry (width - 3) opcode (omega arith) (omega arith) .0
+
+-- no entry is above 16
+fits : (row opcode : ℕ) → Bool
+fits row opcode = leb (getD sizes (row * 3 + opcode) 0) 16
+
+pub size-most : (width opcode : ℕ) → 3 ≤ width → width ≤ 4 → opcode ≤ 2 → sizeOf width opcode ≤ 16
+unfolding sizeOf fits
+size-most width opcode low high o =
+    leb-true _ _ (each 3 (fits (width - 3)) (each 2 (λ row. every 3 (fits row)) refl (width - 3) (omega arith)) opcode (omega arith))
 
 -- an address has 3 or 4 bytes
 pub width-range : (version : ℕ) → (3 ≤ addressWidth version) × (addressWidth version ≤ 4)

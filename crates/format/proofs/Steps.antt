@@ -144,7 +144,8 @@ pub record PoolStep (version : ℕ) (file : List ℕ) (directory count id start 
   pub from : poolsFrom version file directory count (suc id) (start + poolAt file directory id .size) ≡ ok others
   pub is : (record { kind = poolAt file directory id .kind; bytes = part file start (poolAt file directory id .size) } ∷ others .0, others .1) ≡ found
 
-pub pool-step : (version : ℕ) (file : List ℕ) (directory count id start : ℕ) (found : List Payload × ℕ) → poolsFrom version file directory (suc count) id start ≡ ok found → PoolStep version file directory count id start found
+pub pool-step : (version : ℕ) (file : List ℕ) (directory count id start : ℕ) (found : List Payload × ℕ)
+    → poolsFrom version file directory (suc count) id start ≡ ok found → PoolStep version file directory count id start found
 unfolding poolsFrom
 pool-step version file directory count id start found e =
     let pool : Pool = poolAt file directory id in
@@ -197,7 +198,8 @@ pub record OperationStep (setting : Setting) (file : List ℕ) (limit count at :
   pub from : operationsFrom setting file limit count (item .next) ≡ ok others
   pub is : (item .operation ∷ others .0, others .1) ≡ found
 
-pub operation-step : (setting : Setting) (file : List ℕ) (limit count at : ℕ) (found : List Operation × ℕ) → operationsFrom setting file limit (suc count) at ≡ ok found → OperationStep setting file limit count at found
+pub operation-step : (setting : Setting) (file : List ℕ) (limit count at : ℕ) (found : List Operation × ℕ)
+    → operationsFrom setting file limit (suc count) at ≡ ok found → OperationStep setting file limit count at found
 unfolding operationsFrom
 operation-step setting file limit count at found e =
     let a = through (itemAt setting file limit at) _ e in

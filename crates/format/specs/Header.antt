@@ -20,7 +20,19 @@ headerSize version = cond (eqb version 4) 48 (cond (eqb version 2 || eqb version
 -- behind its records of 5 bytes; the directory is empty
 unfoldable pub plainHeader : List ℕ → Header
 plainHeader file =
-    record { version = 1; repeat = eqb (byte file 6) 1; «frame_period» = 0; «card_count» = 0; «frame_count» = be 4 file 8; «pool_count» = 0; «initial_count» = be 4 file 12; «directory_offset» = 20; «initial_start» = 20; «frame_start» = 20 + be 4 file 12 * 5; «total_size» = be 4 file 16 }
+    record {
+      version = 1;
+      repeat = eqb (byte file 6) 1;
+      «frame_period» = 0;
+      «card_count» = 0;
+      «frame_count» = be 4 file 8;
+      «pool_count» = 0;
+      «initial_count» = be 4 file 12;
+      «directory_offset» = 20;
+      «initial_start» = 20;
+      «frame_start» = 20 + be 4 file 12 * 5;
+      «total_size» = be 4 file 16;
+    }
 
 -- "version 4: card count at 38, period at 40"
 unfoldable pub periodOf : (version : ℕ) → List ℕ → ℕ
@@ -33,7 +45,19 @@ cardCount version file = cond (eqb version 4) (byte file 38) 0
 -- total size"
 unfoldable pub pooledHeader : (version : ℕ) → List ℕ → Header
 pooledHeader version file =
-    record { version = version; repeat = eqb (byte file 6) 1; «frame_period» = periodOf version file; «card_count» = cardCount version file; «frame_count» = be 4 file 8; «pool_count» = be 4 file 12; «initial_count» = be 4 file 16; «directory_offset» = be 4 file 20; «initial_start» = be 4 file 24; «frame_start» = be 4 file 28; «total_size» = be 4 file 32 }
+    record {
+      version = version;
+      repeat = eqb (byte file 6) 1;
+      «frame_period» = periodOf version file;
+      «card_count» = cardCount version file;
+      «frame_count» = be 4 file 8;
+      «pool_count» = be 4 file 12;
+      «initial_count» = be 4 file 16;
+      «directory_offset» = be 4 file 20;
+      «initial_start» = be 4 file 24;
+      «frame_start» = be 4 file 28;
+      «total_size» = be 4 file 32;
+    }
 
 unfoldable pub headerOf : List ℕ → Header
 headerOf file = cond (eqb (byte file 4) 1) (plainHeader file) (pooledHeader (byte file 4) file)

@@ -1,6 +1,7 @@
 pub mod Checked
 pub mod Lent
 pub mod Rule
+pub mod Size
 pub mod Bytes
 pub mod Card
 pub mod Target
@@ -15,6 +16,7 @@ pub mod Limits
 pub mod Repack
 pub mod Compare
 pub mod State
+pub mod Next
 pub mod Player
 pub mod Pace
 pub mod Listener

@@ -18,6 +18,7 @@ use Rattle.format.specs.State.{partOf, moved}
 use Rattle.format.specs.Player.{itemUsed, wavesBy, placed, Played, openingBegun, frameBegun, frameEnded, closingAt, operationsLeft, belongs, as25}
 use Rattle.format.specs.Pool.{poolAt}
 use Rattle.format.specs.Stream.{openingLimit}
+use Rattle.format.specs.Next.{nextPart, byNext}
 use Rattle.format.specs.Writes.{write}
 
 -- how many writes an operation makes
@@ -74,9 +75,13 @@ planOpening state file room p = do
     more ← planFrame state file left frame
     ok (record { count = room - left + more .count; complete = more .complete; next = more .next })
 
+-- how many closing writes there are: one more with target 11
+abbrev pub closingCount : (synth : Bool) → ℕ
+closingCount synth = cond synth 33 32
+
 unfoldable pub planClosing : StreamPlayer → (room : ℕ) → Progress → Checked Plan
 planClosing state room p = do
-  let total : ℕ = cond (state .«uses_si22») 33 32
+  let total = closingCount (state .«uses_si22»)
   refuse 25 0 (ltb total (p .«write_index»))
   let rest = total - p .«write_index»
   let done = leb rest room
@@ -88,10 +93,9 @@ plan state file room p Opening = planOpening state file room p
 plan state file room p Frame = planFrame state file room p
 plan state file room p Closing = planClosing state room p
 plan state file room p Between =
-    cond (not (p .initialized)) (planOpening state file room (openingBegun (state .header) p))
-    (cond (ltb (p .«frame_index») (state .header .«frame_count»)) (frameBegun file (p .cursor) (p .«frame_index») p >>= planFrame state file room)
-    (cond (state .header .repeat) (frameBegun file (state .header .«frame_start») 0 p >>= planFrame state file room)
-    (planClosing state room (closingAt 0 false p))))
+    byNext (nextPart (state .header) p) (planOpening state file room (openingBegun (state .header) p))
+    (λ (place frame : ℕ). frameBegun file place frame p >>= planFrame state file room)
+    (planClosing state room (closingAt 0 false p))
 
 unfoldable pub planned : StreamPlayer → (file : List ℕ) → (room : ℕ) → Checked Plan
 planned state file room =

@@ -23,7 +23,8 @@ use Rattle.format.specs.Stream.{openingLimit}
 use Rattle.format.specs.Target.{slotOf}
 use Rattle.format.specs.Writes.{writesWith, targetNumber, closingWrites}
 use Rattle.format.specs.Lent.{lentAfter}
-use Rattle.format.specs.State.{partNumber, partOf, moved}
+use Rattle.format.specs.State.{betweenAt, openingFrom, frameFrom, closingBehind, onwardTo, progressAt, positionOf, partOf, moved}
+use Rattle.format.specs.Next.{nextPart, byNext}
 
 -- WHAT A CALL READS
 
@@ -80,8 +81,7 @@ wavesByAll file directory (operation ∷ more) waves = wavesByAll file directory
 
 -- the progress at a cursor, with so many operations done, and so many writes of the operation at the cursor
 abbrev pub placed : Progress → (cursor operations writes : ℕ) → List WaveSource → Progress
-placed p cursor operations writes waves =
-    record { part = p .part; cursor = cursor; «operation_index» = operations; «operation_count» = p .«operation_count»; «write_index» = writes; «frame_index» = p .«frame_index»; initialized = p .initialized; finished = p .finished; «wave_sources» = waves }
+placed p cursor operations writes waves = progressAt (onwardTo (positionOf p) cursor operations writes) (p .initialized) (p .finished) waves
 
 -- records taken, the room that is left, and the progress
 pub record Gathered : Type 0 where
@@ -113,12 +113,10 @@ pub record Played : Type 0 where
   pub next : StreamPlayer
 
 abbrev pub openingBegun : Header → Progress → Progress
-openingBegun header p =
-    record { part = partNumber Opening; cursor = header .«initial_start»; «operation_index» = 0; «operation_count» = header .«initial_count»; «write_index» = 0; «frame_index» = 0; initialized = false; finished = false; «wave_sources» = p .«wave_sources» }
+openingBegun header p = progressAt (openingFrom header) false false (p .«wave_sources»)
 
 abbrev pub frameStart : List ℕ → (cursor frame : ℕ) → Progress → Progress
-frameStart file cursor frame p =
-    record { part = partNumber Frame; cursor = cursor + 2; «operation_index» = 0; «operation_count» = be 2 file cursor; «write_index» = 0; «frame_index» = frame + 1; initialized = true; finished = false; «wave_sources» = p .«wave_sources» }
+frameStart file cursor frame p = progressAt (frameFrom (cursor + 2) (be 2 file cursor) (frame + 1)) true false (p .«wave_sources»)
 
 -- a frame, counted from 0: its count is read at the cursor
 unfoldable pub frameBegun : List ℕ → (cursor frame : ℕ) → Progress → Checked Progress
@@ -127,12 +125,10 @@ frameBegun file cursor frame p = do
   ok (frameStart file cursor frame p)
 
 abbrev pub frameEnded : Progress → Progress
-frameEnded p =
-    record { part = partNumber Between; cursor = p .cursor; «operation_index» = 0; «operation_count» = 0; «write_index» = 0; «frame_index» = p .«frame_index»; initialized = true; finished = false; «wave_sources» = p .«wave_sources» }
+frameEnded p = progressAt (betweenAt (p .cursor) (p .«frame_index»)) true false (p .«wave_sources»)
 
 abbrev pub closingAt : (writes : ℕ) → (finished : Bool) → Progress → Progress
-closingAt writes finished p =
-    record { part = partNumber Closing; cursor = p .cursor; «operation_index» = 0; «operation_count» = 0; «write_index» = writes; «frame_index» = p .«frame_index»; initialized = true; finished = finished; «wave_sources» = p .«wave_sources» }
+closingAt writes finished p = progressAt (closingBehind (p .cursor) writes (p .«frame_index»)) true finished (p .«wave_sources»)
 
 abbrev pub operationsLeft : Progress → ℕ
 operationsLeft p = p .«operation_count» - p .«operation_index»
@@ -160,17 +156,15 @@ playClosing state room p = do
   let done = leb (length rest) room
   ok (record { records = take room rest; complete = done; next = moved state (closingAt (p .«write_index» + length (take room rest)) done p) })
 
--- the part that is under way goes on. Between vsyncs the next one begins: "the first plays opening and frame 1 together; after the
--- last frame, a repeating file plays frame 1 again without the opening; another plays the closing writes"
+-- the part that is under way goes on; between vsyncs the next one begins
 unfoldable pub play : StreamPlayer → List ℕ → (room : ℕ) → Progress → Part → Checked Played
 play state file room p Opening = playOpening state file room p
 play state file room p Frame = playFrame state file room p
 play state file room p Closing = playClosing state room p
 play state file room p Between =
-    cond (not (p .initialized)) (playOpening state file room (openingBegun (state .header) p))
-    (cond (ltb (p .«frame_index») (state .header .«frame_count»)) (frameBegun file (p .cursor) (p .«frame_index») p >>= playFrame state file room)
-    (cond (state .header .repeat) (frameBegun file (state .header .«frame_start») 0 p >>= playFrame state file room)
-    (playClosing state room (closingAt 0 false p))))
+    byNext (nextPart (state .header) p) (playOpening state file room (openingBegun (state .header) p))
+    (λ (place frame : ℕ). frameBegun file place frame p >>= playFrame state file room)
+    (playClosing state room (closingAt 0 false p))
 
 -- ONE CALL
 

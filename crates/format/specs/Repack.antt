@@ -75,10 +75,14 @@ unfoldable pub isKnown : List (List ℕ) → List ℕ → Bool
 isKnown [] bytes = false
 isKnown (w ∷ ws) bytes = sameBytes w bytes || isKnown ws bytes
 
+-- the waves known with one more, if it is not yet among them
+unfoldable pub added : (known : List (List ℕ)) → (bytes : List ℕ) → List (List ℕ)
+added known bytes = cond (isKnown known bytes) known (known ++ (bytes ∷ []))
+
 unfoldable pub distinct : (known : List (List ℕ)) → List Piece → List (List ℕ)
 distinct known [] = known
 distinct known (single operation ∷ rest) = distinct known rest
-distinct known (wave target a bytes ∷ rest) = distinct (cond (isKnown known bytes) known (known ++ (bytes ∷ []))) rest
+distinct known (wave target a bytes ∷ rest) = distinct (added known bytes) rest
 
 unfoldable pub wavesOf : (known : List (List ℕ)) → List (List Operation) → List (List ℕ)
 wavesOf known [] = known
@@ -97,6 +101,9 @@ packedPiece base waves (wave target a bytes) = Copy target a (base + placeOf wav
 abbrev pub pcmPools : List ℕ → List Payload
 pcmPools [] = []
 pcmPools (v ∷ vs) = record { kind = 2; bytes = v ∷ vs } ∷ []
+
+abbrev pub wavePool : List ℕ → Payload
+wavePool bytes = record { kind = 1; bytes = bytes }
 
 -- "if PCM was written and less than 1,048,576 bytes, a FILL of the rest with 0x80", and "a COPY of all of it"
 abbrev pub pcmFill : (count : ℕ) → List Operation
@@ -119,7 +126,7 @@ repacked s =
       repeat = s .repeat;
       period = 0;
       cards = [];
-      pools = pcmPools pcm ++ map (λ (bytes : List ℕ). record { kind = 1; bytes = bytes }) waves;
+      pools = pcmPools pcm ++ map wavePool waves;
       opening = pcmFill (length pcm) ++ toCores (s .opening) ++ pcmCopy (length pcm);
       frames = map (λ (frame : List Operation). map (packedPiece base waves) (pieces 0 frame)) (s .frames);
     }

@@ -5,7 +5,8 @@ use Rattle.format.specs.declared.rule.Refusal.{Refusal}
 use Rattle.format.specs.declared.rule.Verdict.{Verdict}
 use Rattle.format.specs.declared.rule.Verdict.the-variants.{Allowed, Refused}
 use Rattle.format.specs.declared.rule.Rule.{Rule}
-use Rattle.format.specs.declared.rule.Rule.the-variants.{HeaderShort, Letters, Version, Voices, Flags, Period, CardEntry, Counts, Directory, PoolEntry, PoolPayload, Sections, Opcode, CutOff, NoTarget, WriteAddress, BulkRange, NoPool, CopyRange, Ending, OtherVersion, PcmOrder, ResultSize, LentSize, OtherFile}
+use Rattle.format.specs.declared.rule.Rule.the-variants.{HeaderShort, Letters, Version, Voices, Flags, Period, CardEntry, Counts, Directory, PoolEntry, PoolPayload, Sections, Opcode, CutOff}
+use Rattle.format.specs.declared.rule.Rule.the-variants.{NoTarget, WriteAddress, BulkRange, NoPool, CopyRange, Ending, OtherVersion, PcmOrder, ResultSize, LentSize, OtherFile}
 
 abbrev pub numberOf : Rule → ℕ
 numberOf HeaderShort = 1

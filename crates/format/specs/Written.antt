@@ -87,7 +87,19 @@ endPlace s = framesPlace s + length (framesBytes (s .version) (s .frames))
 -- what the header says
 abbrev pub headerIn : Stream → Header
 headerIn s =
-    record { version = s .version; repeat = s .repeat; «frame_period» = s .period; «card_count» = length (s .cards); «frame_count» = length (s .frames); «pool_count» = length (s .pools); «initial_count» = length (s .opening); «directory_offset» = directoryPlace s; «initial_start» = openingPlace s; «frame_start» = framesPlace s; «total_size» = endPlace s }
+    record {
+      version = s .version;
+      repeat = s .repeat;
+      «frame_period» = s .period;
+      «card_count» = length (s .cards);
+      «frame_count» = length (s .frames);
+      «pool_count» = length (s .pools);
+      «initial_count» = length (s .opening);
+      «directory_offset» = directoryPlace s;
+      «initial_start» = openingPlace s;
+      «frame_start» = framesPlace s;
+      «total_size» = endPlace s;
+    }
 
 -- the header's bytes: 0 to 11 are alike in every version, version 1 has two numbers more, and version 4 has 8 bytes behind byte 39
 abbrev pub plainFields : Header → List Field

@@ -44,6 +44,24 @@ pub struct Progress {
     pub wave_sources: [WaveSource; 16],
 }
 
+// Where a player is in its file, as the numbers of a progress that most calls move on.
+pub struct Position {
+    pub part: u8,
+    pub cursor: usize,
+    pub operation_index: u32,
+    pub operation_count: u32,
+    pub write_index: u32,
+    pub frame_index: u32,
+}
+
+// What a vsync plays next: the number of its part, and for a frame the place of its count and how many frames of the pass are begun
+// before it.
+pub struct NextPart {
+    pub part: u8,
+    pub place: usize,
+    pub frame: u32,
+}
+
 // A player's state: what its start recorded, which no call changes, and its progress.
 #[repr(C)]
 pub struct StreamPlayer {

@@ -6,7 +6,7 @@ use format::CardTable;
 use format::Header;
 use format::Refusal;
 use format::Rule;
-use limit_tables::TARGETS;
+use limit_tables::LimitTable;
 use operation::Walked;
 use operation::check_operations;
 use quick::QuickRun;
@@ -17,7 +17,7 @@ ghost use lib.ListN.{length};
 ghost use Rattle.format.specs.Card.{cardsOf};
 ghost use Rattle.format.specs.Operation.{settingOf};
 ghost use Rattle.operation.specs.Answer.{walkedOf};
-ghost use Rattle.limit_tables.specs.Limits.{LimitsOf};
+ghost use Rattle.limit_tables.specs.Limits.{limitTable};
 ghost use Rattle.quick.specs.Run.{quickRun};
 ghost use Rattle.frames.specs.Frames.{framesSaid};
 
@@ -27,14 +27,11 @@ fn frame_run(
     version: u8,
     pools: u32,
     directory: u32,
-    limits: &[u32; TARGETS],
-    starts: &[u32; TARGETS],
-    ends: &[u64; TARGETS],
-    kinds: &[u8; TARGETS],
+    table: &LimitTable,
     count: u32,
     at: usize,
 ) -> QuickRun
-    ensures { λ r. ⌜ r ≡ quickRun version (now (file .entry)) pools directory (now (limits .entry)) (now (starts .entry)) (now (ends .entry)) (now (kinds .entry)) (length (now (file .entry))) count at ⌝ }
+    ensures { λ r. ⌜ r ≡ quickRun version (now (file .entry)) pools directory (now (table .entry)) (length (now (file .entry))) count at ⌝ }
 {
     if count == 0 {
         return QuickRun {
@@ -48,10 +45,7 @@ fn frame_run(
         version,
         pools,
         directory,
-        limits,
-        starts,
-        ends,
-        kinds,
+        table,
         file.len(),
         count,
         at,
@@ -64,13 +58,10 @@ pub fn check_frames(
     file: &[u8],
     header: Header,
     cards: CardTable,
-    limits: &[u32; TARGETS],
-    starts: &[u32; TARGETS],
-    ends: &[u64; TARGETS],
-    kinds: &[u8; TARGETS],
+    table: &LimitTable,
     si22: bool,
 ) -> Walked
-    requires { ⌜ LimitsOf (header .version) (cardsOf cards) (now limits) (now starts) (now ends) (now kinds) ⌝ }
+    requires { ⌜ now table ≡ limitTable (header .version) (cardsOf cards) ⌝ }
     ensures { λ r. ⌜ walkedOf r ≡ framesSaid (settingOf (now (file .entry)) header cards) (now (file .entry)) (header .«frame_count») (header .«frame_start») si22 ⌝ }
 {
     let version = header.version;
@@ -88,18 +79,7 @@ pub fn check_frames(
             });
         }
         let count = read_u16(file, next.at) as u32;
-        let run = frame_run(
-            file,
-            version,
-            pools,
-            directory,
-            limits,
-            starts,
-            ends,
-            kinds,
-            count,
-            next.at + 2,
-        );
+        let run = frame_run(file, version, pools, directory, table, count, next.at + 2);
         seen = either(seen, run.si22);
         if run.left == 0 {
             at = run.at;

@@ -2,6 +2,9 @@
 use big_endian::byte_at;
 use big_endian::read_u16;
 use big_endian::read_u32;
+use format::CARDS_HEADER_SIZE;
+use format::MASTER_HEADER_SIZE;
+use format::POOLED_HEADER_SIZE;
 ghost use mathlib.Core.Path.{_≡_};
 ghost use Rattle.format.specs.Header.{headerSize, reservedWrong, flagsWrong, periodWrong};
 
@@ -10,15 +13,15 @@ pub fn header_size(version: u8) -> usize
     ensures { λ r. ⌜ r ≡ headerSize version ⌝ }
 {
     if version == 4 {
-        return 48;
+        return CARDS_HEADER_SIZE;
     }
     if version == 2 {
-        return 40;
+        return POOLED_HEADER_SIZE;
     }
     if version == 3 {
-        return 40;
+        return POOLED_HEADER_SIZE;
     }
-    20
+    MASTER_HEADER_SIZE
 }
 
 fn reserved_wrong(file: &[u8], version: u8) -> bool

@@ -1,27 +1,30 @@
 // A master's memory image: begun at 0x80, and given the PCM writes of its opening records.
-use big_endian::byte_at;
-use big_endian::read_u24;
+use big_endian::item_bytes;
+use fields::decode_record;
+use format::MASTER_HEADER_SIZE;
+use format::RECORD_SIZE;
 use image_store::begin;
 ghost use mathlib.Core.Path.{_≡_};
 ghost use mathlib.Core.List.{[], _∷_};
 ghost use Prim.Native.Nat.{_≤_};
 ghost use lib.ListN.{length, replicate};
 ghost use Rattle.format.specs.Compare.{played};
+ghost use Rattle.format.specs.Size.{masterHeaderSize};
 ghost use Rattle.spans.specs.Segments.{recordWrite, recordWrites};
 
 // The write of the record at a place.
 fn play_record(file: &[u8], at: usize, image: &mut [u8])
-    requires { ⌜ at ≤ 0x2000000000 ⌝ }
     ensures { λ _. ⌜ now (image .exit) ≡ played (now (image .entry)) (recordWrite (now (file .entry)) at ∷ []) ⌝ }
 {
-    if byte_at(file, at) != 2 {
+    let item = decode_record(item_bytes(file, at));
+    if item.target != 2 {
         return;
     }
-    let address = read_u24(file, at + 1) as usize;
+    let address = item.address as usize;
     if image.len() <= address {
         return;
     }
-    image[address] = byte_at(file, at + 4);
+    image[address] = item.value;
 }
 
 // The writes of so many records from a place.
@@ -33,15 +36,15 @@ fn play_records(file: &[u8], start: usize, count: u32, image: &mut [u8])
     let mut left = count;
     while 0 < left {
         play_record(file, at, image);
-        at += 5;
+        at += RECORD_SIZE;
         left -= 1;
     }
 }
 
 // A master's image: its opening records stand behind the header.
 pub fn draw_master(master: &[u8], records: u32, image: &mut [u8])
-    ensures { λ _. ⌜ now (image .exit) ≡ played (replicate (length (now (image .entry))) 0x80) (recordWrites (now (master .entry)) records 20) ⌝ }
+    ensures { λ _. ⌜ now (image .exit) ≡ played (replicate (length (now (image .entry))) 0x80) (recordWrites (now (master .entry)) records masterHeaderSize) ⌝ }
 {
     begin(image);
-    play_records(master, 20, records, image);
+    play_records(master, MASTER_HEADER_SIZE, records, image);
 }

@@ -1,22 +1,22 @@
 -- What is played into an image: one step of each loop, and that what lies past its end is left out.
-use Prim.Native.Nat.{ℕ, zero, suc, _+_, _-_, _≤_, _<_}
+use Prim.Native.Nat.{ℕ, zero, suc, _+_, _-_, _≤_, _<_, min}
 use mathlib.Core.Path.{_≡_, refl, sym, ap, _∙_}
 use mathlib.Core.Bool.{Bool, true, false, cond}
 use mathlib.Core.List.{List, [], _∷_, _++_}
 use native.Mathlib.Nat.{add-zero, zero-add, not-suc-le-zero}
 use native.Mathlib.Numerals.{add-one}
 use native.Mathlib.Omega.{arith}
-use borrow.Author.Tests.{ltb-false}
+use borrow.Author.Tests.{ltb-true, ltb-false}
 use lib.Dec.{eqb, ltb}
 use lib.ListN.{length, set, replicate, length-set, length-replicate}
 use lib.Seq.{set-out, set-at}
 use Rattle.format.specs.declared.operation.WriteRecord.{WriteRecord}
 use Rattle.format.specs.Bytes.{byte}
 use Rattle.format.specs.Compare.{played}
+use Rattle.format.specs.Size.{recordSize}
 use Rattle.format.specs.Writes.{write, upward}
 use Rattle.format.proofs.Same.{played-append}
 use Rattle.spans.specs.Segments.{spread, segmentWrites, segmentAt, operationWrites, recordWrite, recordWrites}
-use Rattle.image_store.specs.Image.{least}
 
 -- the number before one that is not 0
 less : (n : ℕ) → suc n - 1 ≡ n
@@ -33,7 +33,8 @@ write-other memory target address value e = rw e
 
 -- ONE VALUE
 
-pub fill-step : (memory : List ℕ) (address count value : ℕ) → 0 < count → played memory (upward 2 address (replicate count value)) ≡ played (set memory address value) (upward 2 (address + 1) (replicate (count - 1) value))
+pub fill-step : (memory : List ℕ) (address count value : ℕ) → 0 < count
+    → played memory (upward 2 address (replicate count value)) ≡ played (set memory address value) (upward 2 (address + 1) (replicate (count - 1) value))
 unfolding played upward
 fill-step memory address zero value h = absurd (not-suc-le-zero h)
 fill-step memory address (suc count) value h = rw (less count)
@@ -55,7 +56,9 @@ unfolding played upward
 fill-rest n v [] = rw (add-zero, mathlib.Core.List.append-nil)
 fill-rest n v (b ∷ rest) =
     let more : n + 1 + length rest ≡ n + suc (length rest) = omega arith in
-    ap (λ (m : List ℕ). played m (upward 2 (n + 1) (replicate (length rest) v))) (set-at (replicate n v) b rest v n (length-replicate n v) ∙ replicate-next n v rest) ∙ fill-rest (n + 1) v rest ∙ ap (λ (k : ℕ). replicate k v) more
+    ap (λ (m : List ℕ). played m (upward 2 (n + 1) (replicate (length rest) v))) (set-at (replicate n v) b rest v n (length-replicate n v) ∙ replicate-next n v rest)
+    ∙ fill-rest (n + 1) v rest
+    ∙ ap (λ (k : ℕ). replicate k v) more
 
 pub fill-all : (memory : List ℕ) (v : ℕ) → played memory (upward 2 0 (replicate (length memory) v)) ≡ replicate (length memory) v
 fill-all memory v = fill-rest 0 v memory ∙ ap (λ (k : ℕ). replicate k v) (zero-add (length memory))
@@ -63,7 +66,8 @@ fill-all memory v = fill-rest 0 v memory ∙ ap (λ (k : ℕ). replicate k v) (z
 -- BYTES OF A FILE
 
 module _ (file : List ℕ) where
-  pub copy-step : (memory : List ℕ) (address source step count : ℕ) → 0 < count → played memory (spread file 2 address source step count) ≡ played (set memory address (byte file source)) (spread file 2 (address + 1) (source + step) step (count - 1))
+  pub copy-step : (memory : List ℕ) (address source step count : ℕ) → 0 < count
+      → played memory (spread file 2 address source step count) ≡ played (set memory address (byte file source)) (spread file 2 (address + 1) (source + step) step (count - 1))
   unfolding played spread
   copy-step memory address source step zero h = absurd (not-suc-le-zero h)
   copy-step memory address source step (suc count) h = rw (less count)
@@ -77,37 +81,47 @@ module _ (file : List ℕ) where
   unfolding played spread
   copy-other memory target address source step zero e = refl
   copy-other memory target address source step (suc count) e =
-      ap (λ (b : Bool). played (cond b (set memory address (byte file source)) memory) (spread file target (address + 1) (source + step) step count)) e ∙ copy-other memory target (address + 1) (source + step) step count e
+      ap (λ (b : Bool). played (cond b (set memory address (byte file source)) memory) (spread file target (address + 1) (source + step) step count)) e
+      ∙ copy-other memory target (address + 1) (source + step) step count e
 
   -- past the end
   pub copy-past : (memory : List ℕ) (address source step count : ℕ) → length memory ≤ address → played memory (spread file 2 address source step count) ≡ memory
   unfolding played spread
   copy-past memory address source step zero h = refl
   copy-past memory address source step (suc count) h =
-      ap (λ (m : List ℕ). played m (spread file 2 (address + 1) (source + step) step count)) (set-out memory address (byte file source) h) ∙ copy-past memory (address + 1) (source + step) step count (omega arith)
+      ap (λ (m : List ℕ). played m (spread file 2 (address + 1) (source + step) step count)) (set-out memory address (byte file source) h)
+      ∙ copy-past memory (address + 1) (source + step) step count (omega arith)
 
   -- as far as the end
-  copy-whole : (memory : List ℕ) (address source step room more : ℕ) → length memory ≡ address + room → played memory (spread file 2 address source step (room + more)) ≡ played memory (spread file 2 address source step room)
+  copy-whole : (memory : List ℕ) (address source step room more : ℕ) → length memory ≡ address + room
+      → played memory (spread file 2 address source step (room + more)) ≡ played memory (spread file 2 address source step room)
   unfolding played spread
   copy-whole memory address source step zero more e = rw zero-add (copy-past memory address source step more (omega arith))
   copy-whole memory address source step (suc room) more e =
       let next : suc room + more ≡ suc (room + more) = omega arith in
       rw next (copy-whole (set memory address (byte file source)) (address + 1) (source + step) step room more (rw length-set (omega arith)))
 
-  pub copy-least : (memory : List ℕ) (address source step count : ℕ) → address ≤ length memory → played memory (spread file 2 address source step (least count (length memory - address))) ≡ played memory (spread file 2 address source step count)
-  unfolding least
-  copy-least memory address source step count h = go (ltb count (length memory - address)) refl
+  pub copy-min : (memory : List ℕ) (address source step count : ℕ) → address ≤ length memory
+      → played memory (spread file 2 address source step (min count (length memory - address))) ≡ played memory (spread file 2 address source step count)
+  copy-min memory address source step count h =
+      go (length memory - address) (omega arith) (ltb count (length memory - address)) refl
     where
-      go : (b : Bool) → ltb count (length memory - address) ≡ b → played memory (spread file 2 address source step (cond b count (length memory - address))) ≡ played memory (spread file 2 address source step count)
-      go true e = refl
-      go false e =
-          let long : length memory - address ≤ count = ltb-false _ _ e in
-          let split : count ≡ length memory - address + (count - (length memory - address)) = omega arith in
-          sym (ap (λ (n : ℕ). played memory (spread file 2 address source step n)) split ∙ copy-whole memory address source step (length memory - address) (count - (length memory - address)) (omega arith))
+      go : (room : ℕ) → length memory ≡ address + room → (b : Bool) → ltb count room ≡ b
+          → played memory (spread file 2 address source step (min count room)) ≡ played memory (spread file 2 address source step count)
+      go room end true e =
+          let short : min count room ≡ count = omega (arith, ltb-true count room e) in
+          rw short
+      go room end false e =
+          let long : min count room ≡ room = omega (arith, ltb-false count room e) in
+          let split : count ≡ room + (count - room) = omega (arith, ltb-false count room e) in
+          rw long
+          (sym (ap (λ (n : ℕ). played memory (spread file 2 address source step n)) split ∙ copy-whole memory address source step room (count - room) end))
 
   -- OPERATIONS AND RECORDS
 
-  pub operations-step : (memory : List ℕ) (directory count at : ℕ) → 0 < count → played memory (operationWrites file directory count at) ≡ played (played memory (segmentWrites file (segmentAt file directory at))) (operationWrites file directory (count - 1) (segmentAt file directory at .next))
+  pub operations-step : (memory : List ℕ) (directory count at : ℕ) → 0 < count
+      → played memory (operationWrites file directory count at)
+      ≡ played (played memory (segmentWrites file (segmentAt file directory at))) (operationWrites file directory (count - 1) (segmentAt file directory at .next))
   unfolding operationWrites
   operations-step memory directory zero at h = absurd (not-suc-le-zero h)
   operations-step memory directory (suc count) at h = rw (less count) (played-append memory (segmentWrites file (segmentAt file directory at)) _)
@@ -116,7 +130,8 @@ module _ (file : List ℕ) where
   unfolding operationWrites played
   operations-end memory directory at = refl
 
-  pub records-step : (memory : List ℕ) (count at : ℕ) → 0 < count → played memory (recordWrites file count at) ≡ played (played memory (recordWrite file at ∷ [])) (recordWrites file (count - 1) (at + 5))
+  pub records-step : (memory : List ℕ) (count at : ℕ) → 0 < count
+      → played memory (recordWrites file count at) ≡ played (played memory (recordWrite file at ∷ [])) (recordWrites file (count - 1) (at + recordSize))
   unfolding recordWrites played
   records-step memory zero at h = absurd (not-suc-le-zero h)
   records-step memory (suc count) at h = rw (less count)

@@ -1,5 +1,6 @@
 // The memory image of a version 2 file: begun at 0x80, and given the PCM writes of its opening.
 use big_endian::byte_at;
+use big_endian::smaller;
 use image_store::begin;
 use image_store::copy;
 use image_store::fill;
@@ -10,17 +11,6 @@ ghost use Prim.Native.Nat.{_≤_};
 ghost use lib.ListN.{length, replicate};
 ghost use Rattle.format.specs.Compare.{played};
 ghost use Rattle.spans.specs.Segments.{segmentWrites, operationWrites};
-ghost use Rattle.image_store.specs.Image.{least};
-
-// The smaller of two numbers.
-fn least(a: usize, b: usize) -> usize
-    ensures { λ r. ⌜ (r ≡ least a b) × (r ≤ a) × (r ≤ b) ⌝ }
-{
-    if a < b {
-        return a;
-    }
-    b
-}
 
 // The writes of an operation. Those of an accepted file lie in the memory; what would not is left out.
 fn play_segment(file: &[u8], segment: Segment, image: &mut [u8])
@@ -34,7 +24,7 @@ fn play_segment(file: &[u8], segment: Segment, image: &mut [u8])
     if image.len() <= address {
         return;
     }
-    let count = least(segment.count as usize, image.len() - address);
+    let count = smaller(segment.count as usize, image.len() - address);
     let source = segment.source;
     if segment.copied {
         copy(image, address, count, file, source);

@@ -1,14 +1,27 @@
-// The limits of every target number of a file, in arrays.
+// The limits of every target number of a file, in one array: what an item is compared with.
 use format::CardTable;
 use format::Target;
 use target_lookup::find_target;
 ghost use mathlib.Core.Path.{_≡_};
-ghost use lib.ListN.{length};
+ghost use Prim.Native.Nat.{_<_};
 ghost use Rattle.format.specs.Card.{cardsOf};
-ghost use Rattle.limit_tables.specs.Limits.{writeEnd, bulkEnd, LimitsOf};
+ghost use Rattle.limit_tables.specs.Limits.{writeEnd, bulkEnd, limitTable, limitsAt};
 
 // The target numbers run from 0 to 11.
 pub const TARGETS: usize = 12;
+
+// The limits of a target number: the end of WRITE, the start and the end of FILL and COPY, and the kind of pool that a COPY takes. The
+// ends are those of the crate's specs; a missing target has 0.
+pub struct TargetLimits {
+    pub write_end: u64,
+    pub bulk_start: u64,
+    pub bulk_end: u64,
+    pub kind: u64,
+}
+
+// A row for each target number, lent to the loops: its four numbers in the order of TargetLimits. A table of structs by value would be
+// copied where it is indexed.
+pub type LimitTable = [[u64; 4]; TARGETS];
 
 // The address behind the last one of a WRITE; 0 for a missing target.
 fn write_end(target: Target) -> u32
@@ -30,25 +43,35 @@ pub fn bulk_end(target: Target) -> u64
     target.bulk_start() as u64 + target.bulk_length() as u64 + 1
 }
 
-// Fills the arrays for a version with its cards.
-pub fn target_limits(
-    version: u8,
-    cards: CardTable,
-    limits: &mut [u32; TARGETS],
-    starts: &mut [u32; TARGETS],
-    ends: &mut [u64; TARGETS],
-    kinds: &mut [u8; TARGETS],
-)
-    requires { ⌜ (length (now limits) ≡ 12) × (length (now starts) ≡ 12) × (length (now ends) ≡ 12) × (length (now kinds) ≡ 12) ⌝ }
-    ensures { λ _. ⌜ LimitsOf version (cardsOf cards) (now (limits .exit)) (now (starts .exit)) (now (ends .exit)) (now (kinds .exit)) ⌝ }
+// The table of a version with its cards.
+pub fn limit_table(version: u8, cards: CardTable) -> LimitTable
+    ensures { λ r. ⌜ r ≡ limitTable version (cardsOf cards) ⌝ }
 {
+    let mut table = [[0; 4]; TARGETS];
     let mut number: usize = 0;
     while number < TARGETS {
         let target = find_target(number as u8, version, cards);
-        limits[number] = write_end(target);
-        starts[number] = target.bulk_start();
-        ends[number] = bulk_end(target);
-        kinds[number] = target.kind();
+        let row = [
+            write_end(target) as u64,
+            target.bulk_start() as u64,
+            bulk_end(target),
+            target.kind() as u64,
+        ];
+        table[number] = row;
         number += 1;
+    }
+    table
+}
+
+// The limits of a target number.
+pub fn limits_at(table: &LimitTable, number: usize) -> TargetLimits
+    requires { ⌜ number < 12 ⌝ }
+    ensures { λ r. ⌜ r ≡ limitsAt (now (table .entry)) number ⌝ }
+{
+    TargetLimits {
+        write_end: table[number][0],
+        bulk_start: table[number][1],
+        bulk_end: table[number][2],
+        kind: table[number][3],
     }
 }

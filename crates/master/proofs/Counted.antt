@@ -18,8 +18,11 @@ pieces-short skip [] = omega arith
 pieces-short (suc skip) (record′ ∷ records) = omega (arith, pieces-short skip records)
 pieces-short zero (record′ ∷ records) = go (pieces-short 255 records) (pieces-short 0 records) (startsWave (record′ ∷ records))
   where
+    first : Piece
+    first = wave (targetNumber record′) (address record′) (map value (take 256 (record′ ∷ records)))
+
     go : length (pieces 255 records) ≤ length records → length (pieces 0 records) ≤ length records → (b : Bool)
-        → length {A = Piece} (elim b as (λ (x : Bool). List Piece) [ true ↦ wave (targetNumber record′) (address record′) (map value (take 256 (record′ ∷ records))) ∷ pieces 255 records | false ↦ single record′ ∷ pieces 0 records ]) ≤ suc (length records)
+        → length {A = Piece} (elim b as (λ (x : Bool). List Piece) [ true ↦ first ∷ pieces 255 records | false ↦ single record′ ∷ pieces 0 records ]) ≤ suc (length records)
     go long short true = omega arith
     go long short false = omega arith
 

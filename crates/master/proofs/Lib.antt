@@ -1,5 +1,4 @@
 pub mod Counted
-pub mod Known
 pub mod Master
 pub mod Numbered
 pub mod Pieces

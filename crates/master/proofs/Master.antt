@@ -2,7 +2,7 @@
 use Prim.Native.Nat.{ℕ, zero, suc, _+_, _*_, _-_, _≤_, _<_}
 use mathlib.Core.Path.{_≡_, refl, sym, ap, _∙_, subst}
 use mathlib.Core.Bool.{Bool, true, false, cond}
-use mathlib.Core.List.{List, _∷_}
+use mathlib.Core.List.{List, [], _∷_}
 use native.Mathlib.Nat.{add-zero, not-suc-le-zero}
 use native.Mathlib.Omega.{arith}
 use borrow.Author.Tests.{eq-eqb, eqb-false}
@@ -31,7 +31,8 @@ module _ (setting : Setting) (file : List ℕ) (one : setting .version ≡ 1) wh
       let step = operation-step setting file limit count at found e in
       let plain = ap (λ (b : Bool). cond b (recordAt setting file limit at) (operationAt setting file limit at)) (eq-eqb (setting .version) 1 one) in
       let here = record-is setting file limit at (step .item) (sym plain ∙ step .here) in
-      let more = subst (λ (x : Item). (recordsAt file count (x .next), x .next + count * 5) ≡ step .others) (sym (here .is)) (records-read limit count (step .item .next) (step .others) (step .from)) in
+      let others = records-read limit count (step .item .next) (step .others) (step .from) in
+      let more = subst (λ (x : Item). (recordsAt file count (x .next), x .next + count * 5) ≡ step .others) (sym (here .is)) others in
       let end : at + suc count * 5 ≡ at + 5 + count * 5 = omega arith in
       ap (λ (k : ℕ). (recordOf file at ∷ recordsAt file count (at + 5), k)) end ∙ (λ i. (here .is i .operation ∷ more i .0, more i .1)) ∙ step .is
 
@@ -42,7 +43,8 @@ module _ (setting : Setting) (file : List ℕ) (one : setting .version ≡ 1) wh
   frames-read (suc count) at found e =
       let step = frame-step setting file count at found e in
       let here = records-read (length file) (be 2 file at) (at + 2) (step .frame) (step .here) in
-      let more = subst (λ (x : List Operation × ℕ). (framesAt file count (x .1), framesEnd file count (x .1)) ≡ step .others) (sym here) (frames-read count (step .frame .1) (step .others) (step .from)) in
+      let others = frames-read count (step .frame .1) (step .others) (step .from) in
+      let more = subst (λ (x : List Operation × ℕ). (framesAt file count (x .1), framesEnd file count (x .1)) ≡ step .others) (sym here) others in
       (λ i. (here i .0 ∷ more i .0, more i .1)) ∙ step .is
 
 -- the frames of a file lie behind one another
@@ -76,12 +78,15 @@ pub record IsMaster (file : List ℕ) (s : Stream) : Type 0 where
   pub lies : Lies file (headerOf file)
 
 -- version 1's header
-header-places : (file : List ℕ) → headerOf file .version ≡ 1 → (headerOf file .«initial_start» ≡ 20) × (headerOf file .«frame_start» ≡ 20 + headerOf file .«initial_count» * 5)
+abbrev PlacesOf : Header → Type 0
+PlacesOf header = (header .«initial_start» ≡ 20) × (header .«frame_start» ≡ 20 + header .«initial_count» * 5)
+
+header-places : (file : List ℕ) → headerOf file .version ≡ 1 → PlacesOf (headerOf file)
 unfolding headerOf plainHeader pooledHeader
 header-places file e = go (eqb (byte file 4) 1) refl e
   where
     go : (b : Bool) → eqb (byte file 4) 1 ≡ b → cond b (plainHeader file) (pooledHeader (byte file 4) file) .version ≡ 1
-        → (cond b (plainHeader file) (pooledHeader (byte file 4) file) .«initial_start» ≡ 20) × (cond b (plainHeader file) (pooledHeader (byte file 4) file) .«frame_start» ≡ 20 + cond b (plainHeader file) (pooledHeader (byte file 4) file) .«initial_count» * 5)
+        → PlacesOf (cond b (plainHeader file) (pooledHeader (byte file 4) file))
     go true p one = (refl, refl)
     go false p one = absurd (eqb-false (byte file 4) 1 p one)
 
@@ -108,5 +113,12 @@ is-master file s e one =
 pub repacked-master : (file : List ℕ) (s : Stream) → IsMaster file s → repacked s ≡ repacked (masterOf file (headerOf file))
 unfolding repacked
 repacked-master file s m =
-    let same : (r r′ : Bool) (o o′ : List Operation) (f f′ : List (List Operation)) → r ≡ r′ → o ≡ o′ → f ≡ f′ → repacked (record { version = 1; repeat = r; period = 0; cards = s .cards; pools = s .pools; opening = o; frames = f }) ≡ repacked (record { version = 1; repeat = r′; period = 0; cards = s .cards; pools = s .pools; opening = o′; frames = f′ }) = λ r r′ o o′ f f′ p q t i. repacked (record { version = 1; repeat = p i; period = 0; cards = s .cards; pools = s .pools; opening = q i; frames = t i }) in
-    same (s .repeat) _ (s .opening) _ (s .frames) _ (m .repeats) (m .opening) (m .frames)
+    λ i. repacked (record {
+      version = 1;
+      repeat = m .repeats i;
+      period = 0;
+      cards = [];
+      pools = [];
+      opening = m .opening i;
+      frames = m .frames i;
+    })

@@ -2,15 +2,16 @@
 use Prim.Native.Nat.{ℕ, zero, suc, _+_, _-_, _≤_, _<_}
 use mathlib.Core.Path.{_≡_, refl, sym, ap, _∙_}
 use mathlib.Core.Bool.{Bool, true, false}
-use mathlib.Core.List.{List, [], _++_, append-assoc}
+use mathlib.Core.List.{List, [], _∷_, _++_, append-assoc}
 use native.Mathlib.Nat.{not-suc-le-zero}
 use native.Mathlib.Omega.{arith}
 use lib.ListN.{length, getD, length-append}
 use Rattle.format.specs.declared.operation.Operation.the-variants.{Copy}
-use Rattle.format.specs.Bytes.{byte, be, bytesOf}
+use Rattle.format.specs.Bytes.{byte, be, u16, bytesOfAll}
+use Rattle.format.specs.Operation.{sizeOf}
 use Rattle.format.specs.Repack.{startsWave, pieces, placeOf}
 use Rattle.format.specs.Written.{itemBytes, operationsBytes}
-use Rattle.round_trip.proofs.Places.{length-bytesOf}
+use Rattle.format.proofs.Fields.{fields-size}
 use Rattle.master.specs.Places.{recordOf, recordsAt, behindFrame, waveAt}
 use Rattle.master.specs.Result.{pieceCount, pieceBytes, frameBytes}
 use Rattle.master.specs.Uses.{usesAt, allUses, Marked, MarkedFrames, numbered, piecesBy, frameBy, framesBy}
@@ -26,7 +27,8 @@ module _ (numbers : List ℕ) (base : ℕ) (file : List ℕ) where
   by-none used at = refl
 
   pub by-wave : (used count at : ℕ) → startsWave (recordsAt file count at) ≡ true
-      → piecesBy numbers base used file count at ≡ itemBytes 2 (Copy (byte file at) (be 3 file (at + 1)) (base + getD numbers used 0) 0 256) ++ piecesBy numbers base (used + 1) file (count - 256) (at + 1280)
+      → piecesBy numbers base used file count at
+      ≡ itemBytes 2 (Copy (byte file at) (be 3 file (at + 1)) (base + getD numbers used 0) 0 256) ++ piecesBy numbers base (used + 1) file (count - 256) (at + 1280)
   unfolding piecesBy numbered operationsBytes
   by-wave used count at e = rw (wave-next file count at e)
 
@@ -36,16 +38,16 @@ module _ (numbers : List ℕ) (base : ℕ) (file : List ℕ) where
   by-single used count at h e = rw (single-next file count at h e)
 
   pub by-wave-size : (used count at : ℕ) → startsWave (recordsAt file count at) ≡ true
-      → length (piecesBy numbers base used file count at) ≡ 15 + length (piecesBy numbers base (used + 1) file (count - 256) (at + 1280))
+      → length (piecesBy numbers base used file count at) ≡ sizeOf 3 2 + length (piecesBy numbers base (used + 1) file (count - 256) (at + 1280))
   by-wave-size used count at e = rw (by-wave used count at e, length-append, copy-size)
 
   pub by-single-size : (used count at : ℕ) → 0 < count → startsWave (recordsAt file count at) ≡ false
-      → length (piecesBy numbers base used file count at) ≡ 6 + length (piecesBy numbers base used file (count - 1) (at + 5))
+      → length (piecesBy numbers base used file count at) ≡ sizeOf 3 0 + length (piecesBy numbers base used file (count - 1) (at + 5))
   by-single-size used count at h e = rw (by-single used count at h e, length-append, write-size)
 
   pub frame-by-size : (used at : ℕ) → length (frameBy numbers base used file at) ≡ 2 + length (piecesBy numbers base used file (be 2 file at) (at + 2))
   unfolding frameBy
-  frame-by-size used at = length-append (bytesOf 2 _) (piecesBy numbers base used file (be 2 file at) (at + 2)) ∙ rw length-bytesOf
+  frame-by-size used at = length-append (bytesOfAll (u16 _ ∷ [])) (piecesBy numbers base used file (be 2 file at) (at + 2)) ∙ rw fields-size
 
   -- ---- all frames
 
@@ -54,7 +56,8 @@ module _ (numbers : List ℕ) (base : ℕ) (file : List ℕ) where
   frames-by-none used at = refl
 
   pub frames-by-next : (used count at : ℕ) → 0 < count
-      → framesBy numbers base used file count at ≡ frameBy numbers base used file at ++ framesBy numbers base (used + length (usesAt file (be 2 file at) (at + 2))) file (count - 1) (behindFrame file at)
+      → framesBy numbers base used file count at
+      ≡ frameBy numbers base used file at ++ framesBy numbers base (used + length (usesAt file (be 2 file at) (at + 2))) file (count - 1) (behindFrame file at)
   unfolding framesBy
   frames-by-next used zero at h = absurd (not-suc-le-zero h)
   frames-by-next used (suc count) at h =
@@ -106,7 +109,7 @@ module _ (waves : List (List ℕ)) (numbers : List ℕ) (base : ℕ) (file spots
       let uses = ap length (all-uses-next file (suc count) at some) ∙ length-append (usesAt file records (at + 2)) (allUses file (suc count - 1) (behindFrame file at)) in
       let here = pieces-by-is records used records (at + 2) (omega arith) (frame-marked m some) (λ k less. placed k (omega (arith, uses))) in
       let more = frames-by-is (used + length (usesAt file records (at + 2))) count (behindFrame file at) (rw left at (frames-marked m some refl)) (λ k less. placed k (omega (arith, rw left at uses))) in
-      let count-bytes = bytesOf 2 (pieceCount file records (at + 2)) in
+      let count-bytes = bytesOfAll (u16 (pieceCount file records (at + 2)) ∷ []) in
       let next = frames-next file base waves (suc count) at some in
       append-assoc count-bytes (piecesBy numbers base used file records (at + 2)) (framesBy numbers base (used + length (usesAt file records (at + 2))) file count (behindFrame file at))
       ∙ (λ i. count-bytes ++ (here i ++ more i))

@@ -15,6 +15,23 @@ use Rattle.format.specs.Repack.{Piece, wave, single, value, runs, startsWave, p
 use Rattle.format.proofs.Checks.{and-true}
 use Rattle.master.specs.Places.{recordOf, recordsAt, valuesAt, waveAt}
 
+-- what steps over one of so many records, of 5 bytes each, steps over as many as are asked for
+pub skip-all : {A : Type 0} (f : (skip count at : ℕ) → A)
+    → ((skip at place : ℕ) → f (suc skip) 0 at ≡ f 0 0 place)
+    → ((skip count at : ℕ) → f (suc skip) (suc count) at ≡ f skip count (at + 5))
+    → (skip count at : ℕ) → f skip count at ≡ f 0 (count - skip) (at + skip * 5)
+skip-all f none one zero count at =
+    let e : count - 0 ≡ count = omega arith in
+    let e′ : at + 0 * 5 ≡ at = omega arith in
+    rw (e, e′)
+skip-all f none one (suc skip) zero at =
+    let e : 0 - suc skip ≡ 0 = omega arith in
+    rw e (none skip at _)
+skip-all f none one (suc skip) (suc count) at =
+    let e : suc count - suc skip ≡ count - skip = omega arith in
+    let e′ : at + suc skip * 5 ≡ at + 5 + skip * 5 = omega arith in
+    rw (e, e′) (one skip count at ∙ skip-all f none one skip count (at + 5))
+
 module _ (file : List ℕ) where
   -- one record and the rest
   pub records-next : (count at : ℕ) → 0 < count → recordsAt file count at ≡ recordOf file at ∷ recordsAt file (count - 1) (at + 5)
@@ -59,17 +76,7 @@ module _ (file : List ℕ) where
 
   records-dropped : (n count at : ℕ) → drop n (recordsAt file count at) ≡ recordsAt file (count - n) (at + n * 5)
   unfolding recordsAt
-  records-dropped zero count at =
-      let e : count - 0 ≡ count = omega arith in
-      let e′ : at + 0 * 5 ≡ at = omega arith in
-      rw (e, e′)
-  records-dropped (suc n) zero at =
-      let e : 0 - suc n ≡ 0 = omega arith in
-      rw e
-  records-dropped (suc n) (suc count) at =
-      let e : suc count - suc n ≡ count - n = omega arith in
-      let e′ : at + suc n * 5 ≡ at + 5 + n * 5 = omega arith in
-      rw (e, e′) (records-dropped n count (at + 5))
+  records-dropped = skip-all (λ (n count at : ℕ). drop n (recordsAt file count at)) (λ n at place. refl) (λ n count at. refl)
 
   -- a run of records: the code looks at as many as the run has
   pub runs-within : (n count target from at : ℕ) → n ≤ count → runs n target from (recordsAt file count at) ≡ runs n target from (recordsAt file n at)
@@ -77,7 +84,8 @@ module _ (file : List ℕ) where
   runs-within zero count target from at h = refl
   runs-within (suc n) zero target from at h = absurd (not-suc-le-zero h)
   runs-within (suc n) (suc count) target from at h =
-      ap (λ (r : Bool). elim (eqb (byte file at) target && eqb (be 3 file (at + 1)) from) as (λ (b : Bool). Bool) [ true ↦ r | false ↦ false ]) (runs-within n count target (suc from) (at + 5) (le-of-suc-le-suc h))
+      let next = runs-within n count target (suc from) (at + 5) (le-of-suc-le-suc h) in
+      ap (λ (r : Bool). elim (eqb (byte file at) target && eqb (be 3 file (at + 1)) from) as (λ (b : Bool). Bool) [ true ↦ r | false ↦ false ]) next
 
   runs-long : (n count target from at : ℕ) → runs n target from (recordsAt file count at) ≡ true → n ≤ count
   unfolding runs recordsAt
@@ -127,7 +135,9 @@ module _ (file : List ℕ) where
   pub wave-long : (count at : ℕ) → startsWave (recordsAt file count at) ≡ true → 256 ≤ count
   wave-long zero at e = absurd (false≢true (unfold startsWave recordsAt in e))
   wave-long (suc count) at e =
-      runs-long 256 (suc count) (byte file at) (be 3 file (at + 1)) at (and-true (aligned at) (runs 256 (byte file at) (be 3 file (at + 1)) (recordsAt file (suc count) at)) (sym (starts-tests (suc count) at (omega arith)) ∙ e) .1)
+      let tests = sym (starts-tests (suc count) at (omega arith)) ∙ e in
+      let run = and-true (aligned at) (runs 256 (byte file at) (be 3 file (at + 1)) (recordsAt file (suc count) at)) tests .1 in
+      runs-long 256 (suc count) (byte file at) (be 3 file (at + 1)) at run
 
   pub starts-short : (count at : ℕ) → count < 256 → startsWave (recordsAt file count at) ≡ false
   starts-short count at h = go (startsWave (recordsAt file count at)) refl
@@ -168,7 +178,8 @@ module _ (file : List ℕ) where
       let long = wave-long (suc count) at e in
       let left : suc count - 256 ≡ count - 255 = omega arith in
       let place : at + 5 + 255 * 5 ≡ at + 1280 = omega arith in
-      let rest : pieces 255 (recordsAt file count (at + 5)) ≡ pieces 0 (recordsAt file (suc count - 256) (at + 1280)) = pieces-skip 255 (recordsAt file count (at + 5)) ∙ rw (records-dropped 255 count (at + 5), left, place) in
+      let behind : pieces 0 (drop 255 (recordsAt file count (at + 5))) ≡ pieces 0 (recordsAt file (suc count - 256) (at + 1280)) = rw (records-dropped 255 count (at + 5), left, place) in
+      let rest = pieces-skip 255 (recordsAt file count (at + 5)) ∙ behind in
       choose count at true e ∙ (λ i. wave (byte file at) (be 3 file (at + 1)) (values-taken 256 (suc count) at long i) ∷ rest i)
 
   pub single-next : (count at : ℕ) → 0 < count → startsWave (recordsAt file count at) ≡ false

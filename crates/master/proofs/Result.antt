@@ -2,7 +2,7 @@
 use Prim.Native.Nat.{ℕ, zero, suc, _+_, _-_, _<_}
 use mathlib.Core.Path.{_≡_, refl, sym, ap, _∙_}
 use mathlib.Core.Bool.{Bool, true, false, cond, not}
-use mathlib.Core.List.{List, [], _∷_, _++_, map, append-nil}
+use mathlib.Core.List.{List, [], _∷_, _++_, map}
 use native.Mathlib.Nat.{not-suc-le-zero, add-zero}
 use native.Mathlib.Numerals.{add-one}
 use native.Mathlib.Omega.{arith}
@@ -11,14 +11,14 @@ use lib.Dec.{eqb}
 use lib.ListN.{length, length-append, length-map}
 use Rattle.format.specs.declared.operation.Operation.{Operation}
 use Rattle.format.specs.declared.operation.Operation.the-variants.{Write, Copy}
-use Rattle.format.specs.Bytes.{byte, be, bytesOf, bytesOfAll}
+use Rattle.format.specs.Bytes.{byte, be, u16, bytesOfAll}
 use Rattle.format.specs.Checked.{ok, refused, _>>_}
-use Rattle.format.specs.Operation.{addressWidth}
-use Rattle.format.specs.Repack.{Piece, wave, single, toPcm, toCores, inOrder, startsWave, pieces, distinct, wavesOf, placeOf, packedPiece}
+use Rattle.format.specs.Operation.{addressWidth, sizeOf}
+use Rattle.format.specs.Repack.{Piece, wave, single, toPcm, toCores, inOrder, startsWave, pieces, added, distinct, wavesOf, placeOf, packedPiece}
 use Rattle.format.specs.Written.{itemBytes, operationsBytes, framesBytes}
-use Rattle.round_trip.proofs.Places.{fields-size, length-bytesOf}
+use Rattle.format.proofs.Fields.{fields-size}
 use Rattle.master.specs.Places.{recordOf, recordsAt, framesAt, behindFrame, waveAt}
-use Rattle.master.specs.Result.{pcmFrom, pcmBytes, coreBytes, pieceCount, pieceBytes, frameWaves, frameBytes, allWaves, added}
+use Rattle.master.specs.Result.{pcmFrom, pcmBytes, coreBytes, pieceCount, pieceBytes, frameWaves, frameBytes, allWaves}
 use Rattle.master.proofs.Pieces.{records-next, wave-next, single-next}
 
 module _ (file : List ℕ) where
@@ -109,7 +109,8 @@ module _ (file : List ℕ) where
     bytes-none at = refl
 
     pub bytes-wave : (count at : ℕ) → startsWave (recordsAt file count at) ≡ true
-        → pieceBytes base waves file count at ≡ itemBytes 2 (Copy (byte file at) (be 3 file (at + 1)) (base + placeOf waves (waveAt file at)) 0 256) ++ pieceBytes base waves file (count - 256) (at + 1280)
+        → pieceBytes base waves file count at
+        ≡ itemBytes 2 (Copy (byte file at) (be 3 file (at + 1)) (base + placeOf waves (waveAt file at)) 0 256) ++ pieceBytes base waves file (count - 256) (at + 1280)
     unfolding pieceBytes operationsBytes
     bytes-wave count at e = rw (wave-next file count at e)
 
@@ -142,34 +143,40 @@ module _ (file : List ℕ) where
     frames-none at = refl
 
     pub frames-next : (count at : ℕ) → 0 < count
-        → frameBytes base waves file count at ≡ bytesOf 2 (pieceCount file (be 2 file at) (at + 2)) ++ (pieceBytes base waves file (be 2 file at) (at + 2) ++ frameBytes base waves file (count - 1) (behindFrame file at))
-    unfolding frameBytes pieceBytes pieceCount framesBytes bytesOfAll
-    frames-next count at h = rw (frames-one count at h, length-map, append-nil)
+        → frameBytes base waves file count at ≡ bytesOfAll (u16 (pieceCount file (be 2 file at) (at + 2)) ∷ []) ++ (pieceBytes base waves file (be 2 file at) (at + 2) ++ frameBytes base waves file (count - 1) (behindFrame file at))
+    unfolding frameBytes pieceBytes pieceCount framesBytes
+    frames-next count at h = rw (frames-one count at h, length-map)
 
 -- ---- sizes: which pool a COPY names does not matter
 
-pub write-size : (t a v : ℕ) → length (itemBytes 2 (Write t a v)) ≡ 6
-unfolding itemBytes addressWidth
+-- by the table of lengths, for addresses of 3 bytes
+pub write-size : (t a v : ℕ) → length (itemBytes 2 (Write t a v)) ≡ sizeOf 3 0
+unfolding itemBytes addressWidth sizeOf
 write-size t a v = fields-size _
 
-pub copy-size : (t a p q n : ℕ) → length (itemBytes 2 (Copy t a p q n)) ≡ 15
-unfolding itemBytes addressWidth
+pub copy-size : (t a p q n : ℕ) → length (itemBytes 2 (Copy t a p q n)) ≡ sizeOf 3 2
+unfolding itemBytes addressWidth sizeOf
 copy-size t a p q n = fields-size _
+
+-- what the table says, where a sum of sizes has a bound
+pub write-six : sizeOf 3 0 ≡ 6
+unfolding sizeOf
+write-six = refl
 
 module _ (file : List ℕ) (base : ℕ) (waves : List (List ℕ)) where
   pub size-none : (at : ℕ) → length (pieceBytes base waves file 0 at) ≡ 0
   size-none at = ap length (bytes-none file base waves at)
 
-  pub size-wave : (count at : ℕ) → startsWave (recordsAt file count at) ≡ true → length (pieceBytes base waves file count at) ≡ 15 + length (pieceBytes base waves file (count - 256) (at + 1280))
+  pub size-wave : (count at : ℕ) → startsWave (recordsAt file count at) ≡ true → length (pieceBytes base waves file count at) ≡ sizeOf 3 2 + length (pieceBytes base waves file (count - 256) (at + 1280))
   size-wave count at e = rw (bytes-wave file base waves count at e, length-append, copy-size)
 
   pub size-single : (count at : ℕ) → 0 < count → startsWave (recordsAt file count at) ≡ false
-      → length (pieceBytes base waves file count at) ≡ 6 + length (pieceBytes base waves file (count - 1) (at + 5))
+      → length (pieceBytes base waves file count at) ≡ sizeOf 3 0 + length (pieceBytes base waves file (count - 1) (at + 5))
   size-single count at h e = rw (bytes-single file base waves count at h e, length-append, write-size)
 
   pub size-frame : (count at : ℕ) → 0 < count
       → length (frameBytes base waves file count at) ≡ 2 + length (pieceBytes base waves file (be 2 file at) (at + 2)) + length (frameBytes base waves file (count - 1) (behindFrame file at))
-  size-frame count at h = simp (frames-next file base waves count at h, length-append, length-bytesOf) (omega arith)
+  size-frame count at h = simp (frames-next file base waves count at h, length-append, fields-size) (omega arith)
 
 module _ (base base′ : ℕ) (waves waves′ : List (List ℕ)) where
   piece-size : (p : Piece) → length (itemBytes 2 (packedPiece base waves p)) ≡ length (itemBytes 2 (packedPiece base′ waves′ p))
@@ -182,7 +189,8 @@ module _ (base base′ : ℕ) (waves waves′ : List (List ℕ)) where
   pieces-size (p ∷ ps) = rw (length-append, length-append, piece-size p, pieces-size ps)
 
   frames-size : (frames : List (List Operation))
-      → length (framesBytes 2 (map (λ (frame : List Operation). map (packedPiece base waves) (pieces 0 frame)) frames)) ≡ length (framesBytes 2 (map (λ (frame : List Operation). map (packedPiece base′ waves′) (pieces 0 frame)) frames))
+      → length (framesBytes 2 (map (λ (frame : List Operation). map (packedPiece base waves) (pieces 0 frame)) frames))
+      ≡ length (framesBytes 2 (map (λ (frame : List Operation). map (packedPiece base′ waves′) (pieces 0 frame)) frames))
   unfolding framesBytes
   frames-size [] = refl
   frames-size (frame ∷ frames) = simp (length-append, fields-size, pieces-size (pieces 0 frame), frames-size frames)

@@ -15,7 +15,7 @@ use Rattle.format.specs.Writes.{targetNumber}
 use Rattle.format.specs.Written.{itemBytes, operationsBytes, payloadsBytes}
 use Rattle.master.specs.Places.{framesAt, behindFrame}
 use Rattle.master.specs.Result.{pcmBytes, coreBytes}
-use Rattle.master.proofs.Result.{pcm-byte, pcm-skip, core-item, core-skip, opening-none, write-size}
+use Rattle.master.proofs.Result.{pcm-byte, pcm-skip, core-item, core-skip, opening-none, write-size, write-six}
 
 -- ---- sequences
 
@@ -52,7 +52,7 @@ record-each file (suc count) at = go (record-each file count (at + 5)) (eqb (byt
     go more true e =
         rw (pcm-byte file (suc count) at (omega arith) (eqb-true _ _ e), core-skip file (suc count) at (omega arith) (eqb-true _ _ e), less) (omega arith)
     go more false e =
-        rw (pcm-skip file (suc count) at (omega arith) (eqb-false _ _ e), core-item file (suc count) at (omega arith) (eqb-false _ _ e), less, length-append, write-size) (omega arith)
+        rw (pcm-skip file (suc count) at (omega arith) (eqb-false _ _ e), core-item file (suc count) at (omega arith) (eqb-false _ _ e), less, length-append, write-size, write-six) (omega arith)
 
 pub split-count : (records : List Operation) → length (toCores records) + length (toPcm records) ≡ length records
 unfolding toPcm toCores

@@ -11,22 +11,12 @@ use Rattle.format.specs.Bytes.{be}
 use Rattle.format.specs.Repack.{startsWave}
 use Rattle.master.specs.Places.{recordsAt, behindFrame}
 use Rattle.master.specs.Uses.{usesIn, usesAt, allUses, Later, Marked, MarkedFrames}
-use Rattle.master.proofs.Pieces.{wave-long}
+use Rattle.master.proofs.Pieces.{skip-all, wave-long}
 
 module _ (file : List ℕ) where
   uses-skip : (skip count at : ℕ) → usesIn file skip count at ≡ usesIn file 0 (count - skip) (at + skip * 5)
   unfolding usesIn
-  uses-skip zero count at =
-      let e : count - 0 ≡ count = omega arith in
-      let e′ : at + 0 * 5 ≡ at = omega arith in
-      rw (e, e′)
-  uses-skip (suc skip) zero at =
-      let e : 0 - suc skip ≡ 0 = omega arith in
-      rw e
-  uses-skip (suc skip) (suc count) at =
-      let e : suc count - suc skip ≡ count - skip = omega arith in
-      let e′ : at + suc skip * 5 ≡ at + 5 + skip * 5 = omega arith in
-      rw (e, e′) (uses-skip skip count (at + 5))
+  uses-skip = skip-all (usesIn file) (λ skip at place. refl) (λ skip count at. refl)
 
   abbrev chosen : (count at : ℕ) → Bool → List ℕ
   chosen count at b = elim b as (λ (x : Bool). List ℕ) [ true ↦ at ∷ usesIn file 255 count (at + 5) | false ↦ usesIn file 0 count (at + 5) ]
@@ -158,7 +148,11 @@ module _ {file spots : List ℕ} {used count at : ℕ} (m : MarkedFrames file sp
       record {
         uses = m .uses;
         most = m .most;
-        marks = ap (λ (n : ℕ). drop n spots) e ∙ sym (drop-drop (length here) used spots) ∙ ap (drop (length here)) (frame-marked h .marks) ∙ drop-at here (rest ++ drop (m .uses) spots) (length here) refl;
+        marks =
+            ap (λ (n : ℕ). drop n spots) e
+            ∙ sym (drop-drop (length here) used spots)
+            ∙ ap (drop (length here)) (frame-marked h .marks)
+            ∙ drop-at here (rest ++ drop (m .uses) spots) (length here) refl;
         last = m .last;
         few = omega (arith, m .few, ap length next, length-append here rest);
       }

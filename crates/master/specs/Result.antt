@@ -1,11 +1,11 @@
 -- The parts of a repacked file that come from a master's records, at their places, as bytes.
 use Prim.Native.Nat.{ℕ, _+_}
-use mathlib.Core.Bool.{not, cond}
-use mathlib.Core.List.{List, [], _∷_, _++_, map}
+use mathlib.Core.Bool.{not}
+use mathlib.Core.List.{List, map}
 use lib.ListN.{length}
 use Rattle.format.specs.declared.operation.Operation.{Operation}
 use Rattle.format.specs.Checked.{Checked, ok, refuse, _>>_}
-use Rattle.format.specs.Repack.{value, toPcm, toCores, inOrder, pieces, isKnown, distinct, wavesOf, packedPiece}
+use Rattle.format.specs.Repack.{value, toPcm, toCores, inOrder, pieces, distinct, wavesOf, packedPiece}
 use Rattle.format.specs.Written.{operationsBytes, framesBytes}
 use Rattle.master.specs.Places.{recordsAt, framesAt}
 
@@ -28,10 +28,6 @@ pieceCount file count at = length (pieces 0 (recordsAt file count at))
 
 unfoldable pub pieceBytes : (base : ℕ) → (waves : List (List ℕ)) → List ℕ → (count at : ℕ) → List ℕ
 pieceBytes base waves file count at = operationsBytes 2 (map (packedPiece base waves) (pieces 0 (recordsAt file count at)))
-
--- the known waves with one more, if it is not yet known
-unfoldable pub added : (known : List (List ℕ)) → (bytes : List ℕ) → List (List ℕ)
-added known bytes = cond (isKnown known bytes) known (known ++ (bytes ∷ []))
 
 -- the waves of the records of a frame, with those that are known
 unfoldable pub frameWaves : (known : List (List ℕ)) → List ℕ → (count at : ℕ) → List (List ℕ)

@@ -7,7 +7,7 @@ use mathlib.Core.Path.{_≡_}
 use lib.ListN.{length, getD, drop}
 use Rattle.format.specs.declared.operation.Operation.{Operation}
 use Rattle.format.specs.declared.operation.Operation.the-variants.{Copy}
-use Rattle.format.specs.Bytes.{be, bytesOf}
+use Rattle.format.specs.Bytes.{be, u16, bytesOfAll}
 use Rattle.format.specs.Repack.{Piece, wave, single, startsWave, pieces}
 use Rattle.format.specs.Written.{operationsBytes}
 use Rattle.master.specs.Places.{recordsAt, behindFrame}
@@ -64,7 +64,8 @@ piecesBy numbers base used file count at = operationsBytes 2 (numbered numbers b
 
 -- the frame at a place: its count and its pieces
 unfoldable pub frameBy : (numbers : List ℕ) → (base used : ℕ) → (file : List ℕ) → (at : ℕ) → List ℕ
-frameBy numbers base used file at = bytesOf 2 (pieceCount file (be 2 file at) (at + 2)) ++ piecesBy numbers base used file (be 2 file at) (at + 2)
+frameBy numbers base used file at =
+    bytesOfAll (u16 (pieceCount file (be 2 file at) (at + 2)) ∷ []) ++ piecesBy numbers base used file (be 2 file at) (at + 2)
 
 -- so many frames
 unfoldable pub framesBy : (numbers : List ℕ) → (base used : ℕ) → (file : List ℕ) → (count at : ℕ) → List ℕ

@@ -25,7 +25,8 @@ said seen found = (found .1, seen || anySi22 (found .0))
 abbrev after : (seen : Bool) → Item → ℕ × Bool
 after seen item = (item .next, seen || eqb (targetNumber (item .operation)) 11)
 
-joined : (seen : Bool) (item : Checked Item) (rest : ℕ → Checked (List Operation × ℕ)) → mapped (said seen) (item >>= λ i. rest (i .next) >>= λ found. ok (i .operation ∷ found .0, found .1)) ≡ (mapped (after seen) item >>= λ r. mapped (said (r .1)) (rest (r .0)))
+joined : (seen : Bool) (item : Checked Item) (rest : ℕ → Checked (List Operation × ℕ))
+    → mapped (said seen) (item >>= λ i. rest (i .next) >>= λ found. ok (i .operation ∷ found .0, found .1)) ≡ (mapped (after seen) item >>= λ r. mapped (said (r .1)) (rest (r .0)))
 unfolding anySi22
 joined seen (refused number place) rest = refl
 joined seen (ok i) rest = go (rest (i .next))
@@ -35,7 +36,8 @@ joined seen (ok i) rest = go (rest (i .next))
     go (refused number place) = refl
 
 -- one item, then the others
-pub walk-step : (seen : Bool) (setting : Setting) (file : List ℕ) (limit count at : ℕ) → 0 < count → walkedWith seen setting file limit count at ≡ (stepped seen setting file limit at >>= λ (r : ℕ × Bool). walkedWith (r .1) setting file limit (count - 1) (r .0))
+pub walk-step : (seen : Bool) (setting : Setting) (file : List ℕ) (limit count at : ℕ) → 0 < count
+    → walkedWith seen setting file limit count at ≡ (stepped seen setting file limit at >>= λ (r : ℕ × Bool). walkedWith (r .1) setting file limit (count - 1) (r .0))
 unfolding operationsFrom
 walk-step seen setting file limit zero at h = absurd (not-suc-le-zero h)
 walk-step seen setting file limit (suc count) at h =
@@ -49,9 +51,12 @@ walk-end true setting file limit at = refl
 walk-end false setting file limit at = refl
 
 -- operations behind others, one of which may have had target 11
-pub walked-with : (seen : Bool) (setting : Setting) (file : List ℕ) (limit count at : ℕ) → walkedWith seen setting file limit count at ≡ mapped {B = ℕ × Bool} (λ (found : ℕ × Bool). (found .0, seen || found .1)) (walked setting file limit count at)
+pub walked-with : (seen : Bool) (setting : Setting) (file : List ℕ) (limit count at : ℕ)
+    → walkedWith seen setting file limit count at ≡ mapped {B = ℕ × Bool} (λ (found : ℕ × Bool). (found .0, seen || found .1)) (walked setting file limit count at)
 walked-with seen setting file limit count at = go (operationsFrom setting file limit count at)
   where
-    go : (r : Checked (List Operation × ℕ)) → mapped {B = ℕ × Bool} (λ (found : List Operation × ℕ). (found .1, seen || anySi22 (found .0))) r ≡ mapped {B = ℕ × Bool} (λ (found : ℕ × Bool). (found .0, seen || found .1)) (mapped {B = ℕ × Bool} (λ (found : List Operation × ℕ). (found .1, anySi22 (found .0))) r)
+    go : (r : Checked (List Operation × ℕ))
+        → mapped {B = ℕ × Bool} (λ (found : List Operation × ℕ). (found .1, seen || anySi22 (found .0))) r
+        ≡ mapped {B = ℕ × Bool} (λ (found : ℕ × Bool). (found .0, seen || found .1)) (mapped {B = ℕ × Bool} (λ (found : List Operation × ℕ). (found .1, anySi22 (found .0))) r)
     go (ok found) = refl
     go (refused number place) = refl

@@ -3,15 +3,15 @@
 use allowed::OperationRead;
 use allowed::allow;
 use allowed::target_number;
-use big_endian::byte_at;
-use fields::read_fields;
+use big_endian::item_bytes;
+use fields::decode_operation;
+use fields::operation_of;
 use format::CardTable;
 use format::Header;
 use format::Refusal;
 use format::Rule;
 use target_lookup::find_target;
 use widths::address_width;
-use widths::operation_size;
 ghost use mathlib.Core.Path.{_≡_};
 ghost use Rattle.format.specs.Operation.{settingOf, operationAt};
 ghost use Rattle.allowed.specs.Answer.{itemOf};
@@ -32,34 +32,26 @@ pub fn read_operation(
             place: at,
         });
     }
-    let opcode = byte_at(file, at) as usize;
-    if 2 < opcode {
+    let width = address_width(header.version);
+    let item = decode_operation(item_bytes(file, at), width);
+    if 2 < item.opcode {
         return OperationRead::Refused(Refusal {
             rule: Rule::Opcode,
             place: at,
         });
     }
-    let width = address_width(header.version);
-    let size = operation_size(width, opcode);
+    let size = item.size;
     if limit - at < size {
         return OperationRead::Refused(Refusal {
             rule: Rule::CutOff,
             place: at,
         });
     }
-    let operation = read_fields(file, width, at, opcode);
+    let operation = operation_of(item);
     let version = header.version;
     let target = find_target(target_number(operation), version, cards);
     let pools = header.pool_count;
     let directory = header.directory_offset;
-    allow(
-        file,
-        version,
-        pools,
-        directory,
-        at,
-        target,
-        operation,
-        at + size,
-    )
+    let next = at + size;
+    allow(file, version, pools, directory, at, target, operation, next)
 }

@@ -10,7 +10,7 @@ use Rattle.format.specs.Checked.{Checked, ok, refused, refuse, _>>=_, _>>_}
 use Rattle.format.specs.Operation.{Item}
 use Rattle.format.specs.Pace.{countOf, paced}
 use Rattle.format.specs.Player.{itemUsed, placed, as25}
-use Rattle.agreement.proofs.Paced.{paced-step}
+use Rattle.play_laws.proofs.Paced.{paced-step}
 use Rattle.pace.specs.Told.{wavesNow, Start, started}
 use Rattle.used.specs.Used.{itemUsedBy}
 use Rattle.used.proofs.Same.{used-as25}
@@ -18,7 +18,8 @@ use Rattle.used.proofs.Same.{used-as25}
 -- what is left to do once an operation is started
 abbrev pub behindStart : StreamPlayer → List ℕ → (limit left room : ℕ) → Progress → Start → Checked (ℕ × Progress)
 behindStart state file limit left room p s =
-    cond (ltb room (s .rest)) (ok (0, placed p (p .cursor) (p .«operation_index») (p .«write_index» + room) (s .waves))) (as25 (paced state file limit (left - 1) (room - s .rest) (placed p (s .next) (p .«operation_index» + 1) 0 (s .waves))))
+    cond (ltb room (s .rest)) (ok (0, placed p (p .cursor) (p .«operation_index») (p .«write_index» + room) (s .waves)))
+    (as25 (paced state file limit (left - 1) (room - s .rest) (placed p (s .next) (p .«operation_index» + 1) 0 (s .waves))))
 
 -- the start of an item that is used
 abbrev startOf : StreamPlayer → List ℕ → Progress → Item → Start
@@ -37,7 +38,8 @@ row-25 true stops a more = refl
 row-25 false true a more = refl
 row-25 false false a more = refl
 
-in-two : {A B : Type 0} (first : Checked Item) (test : Item → Bool) (start : Item → A) (behind : A → Checked B) → (first >>= λ (item : Item). refuse 25 0 (test item) >> behind (start item)) ≡ ((first >>= λ (item : Item). refuse 25 0 (test item) >> ok (start item)) >>= behind)
+in-two : {A B : Type 0} (first : Checked Item) (test : Item → Bool) (start : Item → A) (behind : A → Checked B)
+    → (first >>= λ (item : Item). refuse 25 0 (test item) >> behind (start item)) ≡ ((first >>= λ (item : Item). refuse 25 0 (test item) >> ok (start item)) >>= behind)
 in-two (refused number place) test start behind = refl
 in-two (ok item) test start behind = go (test item)
   where
@@ -46,7 +48,13 @@ in-two (ok item) test start behind = go (test item)
     go false = refl
 
 -- one operation, then the others
-pub paced-25 : (state : StreamPlayer) (file : List ℕ) (limit left room : ℕ) (p : Progress) → 0 < left → 0 < room → as25 (paced state file limit left room p) ≡ (started state file limit (p .cursor) (p .«write_index») (p .«wave_sources») >>= behindStart state file limit left room p)
+pub paced-25 : (state : StreamPlayer) (file : List ℕ) (limit left room : ℕ) (p : Progress) → 0 < left → 0 < room
+    → as25 (paced state file limit left room p) ≡ (started state file limit (p .cursor) (p .«write_index») (p .«wave_sources») >>= behindStart state file limit left room p)
 paced-25 state file limit left room p some h =
-    rw (paced-step state file limit left room p some h, ← (in-two (itemUsedBy (state .header) (state .cards) file limit (p .cursor)) (tooFew p) (startOf state file p) (behindStart state file limit left room p)), ← (used-as25 state file limit (p .cursor)))
-    (bind-25 (itemUsed state file limit (p .cursor)) _ (λ (item : Item). refuse 25 0 (tooFew p item) >> behindStart state file limit left room p (startOf state file p item)) λ item. row-25 (tooFew p item) (ltb room (startOf state file p item .rest)) _ _)
+    rw (
+      paced-step state file limit left room p some h,
+      ← (in-two (itemUsedBy (state .header) (state .cards) file limit (p .cursor)) (tooFew p) (startOf state file p) (behindStart state file limit left room p)),
+      ← (used-as25 state file limit (p .cursor)),
+    )
+    (bind-25 (itemUsed state file limit (p .cursor)) _ (λ (item : Item). refuse 25 0 (tooFew p item) >> behindStart state file limit left room p (startOf state file p item)) λ item.
+    row-25 (tooFew p item) (ltb room (startOf state file p item .rest)) _ _)

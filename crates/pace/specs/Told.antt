@@ -40,4 +40,8 @@ startedOf r = cond (r .refused) (refused 25 0) (ok (record { rest = r .rest; nex
 -- the operation at the cursor, of which so many writes are made
 abbrev pub started : StreamPlayer → List ℕ → (limit cursor writes : ℕ) → List WaveSource → Checked Start
 started state file limit cursor writes waves =
-    itemUsedBy (state .header) (state .cards) file limit cursor >>= λ (item : Item). refuse 25 0 (ltb (countOf (item .operation)) writes) >> ok (record { rest = countOf (item .operation) - writes; next = item .next; waves = wavesNow file (state .header .«directory_offset») (item .operation) writes waves })
+    itemUsedBy (state .header) (state .cards) file limit cursor >>= λ (item : Item). refuse 25 0 (ltb (countOf (item .operation)) writes) >> ok (record {
+      rest = countOf (item .operation) - writes;
+      next = item .next;
+      waves = wavesNow file (state .header .«directory_offset») (item .operation) writes waves;
+    })

@@ -4,6 +4,5 @@ mod operations;
 mod waves;
 
 pub use operations::Paced;
-pub use operations::operations_left;
 pub use operations::pace;
 pub use waves::count_of;

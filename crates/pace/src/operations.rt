@@ -2,9 +2,10 @@
 use crate::item::start;
 use format::Progress;
 use format::StreamPlayer;
+use state::operations_left;
 use state::placed;
 ghost use mathlib.Core.Path.{_≡_};
-ghost use Prim.Native.Nat.{_+_, _^_, _≤_, _<_};
+ghost use Prim.Native.Nat.{_≤_};
 ghost use Rattle.format.specs.Pace.{paced};
 ghost use Rattle.format.specs.Player.{operationsLeft, as25};
 ghost use Rattle.pace.specs.Told.{paceOf};
@@ -14,18 +15,6 @@ pub struct Paced {
     pub refused: bool,
     pub room: usize,
     pub progress: Progress,
-}
-
-// How many operations of the part are not done.
-pub fn operations_left(progress: Progress) -> u32
-    ensures { λ r. ⌜ (r ≡ operationsLeft progress) × (progress .«operation_index» + r < 2 ^ 32) ⌝ }
-{
-    let count = progress.operation_count;
-    let done = progress.operation_index;
-    if count < done {
-        return 0;
-    }
-    count - done
 }
 
 fn answer(refused: bool, room: usize, progress: Progress) -> Paced
@@ -53,7 +42,7 @@ pub fn pace(
     let mut operations = progress.operation_index;
     let mut writes = progress.write_index;
     let mut free = room;
-    let mut left = operations_left(progress);
+    let mut left = operations_left(progress.operation_index, progress.operation_count);
     while 0 < left {
         if free == 0 {
             return answer(

@@ -4,14 +4,14 @@ use format::Header;
 use format::Refusal;
 use format::Rule;
 use frames::check_frames;
-use limit_tables::TARGETS;
-use limit_tables::target_limits;
+use limit_tables::LimitTable;
+use limit_tables::limit_table;
 use opening::check_opening;
 use operation::Walked;
 ghost use mathlib.Core.Path.{_≡_};
 ghost use Rattle.format.specs.Card.{cardsOf};
 ghost use Rattle.format.specs.Operation.{settingOf};
-ghost use Rattle.limit_tables.specs.Limits.{LimitsOf};
+ghost use Rattle.limit_tables.specs.Limits.{limitTable};
 ghost use Rattle.parts.specs.Walk.{framesChecked, partsFrom};
 ghost use Rattle.parts.specs.Answer.{partsOf};
 
@@ -26,16 +26,13 @@ fn check_frames_end(
     file: &[u8],
     header: Header,
     cards: CardTable,
-    limits: &[u32; TARGETS],
-    starts: &[u32; TARGETS],
-    ends: &[u64; TARGETS],
-    kinds: &[u8; TARGETS],
+    table: &LimitTable,
     si22: bool,
 ) -> PartsRead
-    requires { ⌜ LimitsOf (header .version) (cardsOf cards) (now limits) (now starts) (now ends) (now kinds) ⌝ }
+    requires { ⌜ now table ≡ limitTable (header .version) (cardsOf cards) ⌝ }
     ensures { λ r. ⌜ partsOf r ≡ framesChecked (settingOf (now (file .entry)) header cards) header (now (file .entry)) si22 ⌝ }
 {
-    match check_frames(file, header, cards, limits, starts, ends, kinds, si22) {
+    match check_frames(file, header, cards, table, si22) {
         Walked::End { place, si22 } => {
             if place != file.len() {
                 return PartsRead::Refused(Refusal {
@@ -53,19 +50,8 @@ fn check_frames_end(
 pub fn check_parts(file: &[u8], header: Header, cards: CardTable) -> PartsRead
     ensures { λ r. ⌜ partsOf r ≡ partsFrom (settingOf (now (file .entry)) header cards) header (now (file .entry)) ⌝ }
 {
-    let mut limits = [0; TARGETS];
-    let mut starts = [0; TARGETS];
-    let mut ends = [0; TARGETS];
-    let mut kinds = [0; TARGETS];
-    target_limits(
-        header.version,
-        cards,
-        &mut limits,
-        &mut starts,
-        &mut ends,
-        &mut kinds,
-    );
-    match check_opening(file, header, cards, &limits, &starts, &ends, &kinds) {
+    let table = limit_table(header.version, cards);
+    match check_opening(file, header, cards, &table) {
         Walked::End { place, si22 } => {
             if place != header.frame_start {
                 return PartsRead::Refused(Refusal {
@@ -73,7 +59,7 @@ pub fn check_parts(file: &[u8], header: Header, cards: CardTable) -> PartsRead
                     place,
                 });
             }
-            check_frames_end(file, header, cards, &limits, &starts, &ends, &kinds, si22)
+            check_frames_end(file, header, cards, &table, si22)
         }
         Walked::Refused(refusal) => PartsRead::Refused(refusal),
     }

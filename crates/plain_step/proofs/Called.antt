@@ -13,13 +13,13 @@ use Rattle.plain_writes.specs.Plain.{plainBehind, plainWrites}
 use Rattle.plain_writes.proofs.Gather.{gather-all}
 use Rattle.current.specs.declared.Current.{Current}
 use Rattle.current.specs.declared.Step.{Step}
-use Rattle.current.specs.Current.{noCurrent, currentOf, playing}
+use Rattle.current.specs.Current.{noCurrent, currentOf, leftOf, playing}
 use Rattle.current.specs.Step.{stepped}
 use Rattle.current.proofs.Found.{current-there}
 use Rattle.current.proofs.Going.{current-going}
 use Rattle.current.proofs.Stepped.{limitOf, going-within, taken-writes, step-played}
 use Rattle.plain_step.specs.PlainStep.{plainStep}
-use Rattle.plain_step.proofs.Takes.{leftOf, behindOf, Takes, plain-takes}
+use Rattle.plain_step.proofs.Takes.{behindOf, Takes, plain-takes}
 
 -- no part, no step: so a step that is taken needs no test of its part
 nothing-taken : (file : List ℕ) (version room : ℕ) (c : Current) (step : Step) → Takes file version room c step → c ≡ noCurrent → ⊥
@@ -44,10 +44,12 @@ module _ (state : StreamPlayer) (file : List ℕ) (room : ℕ) (c : Current) (st
       let behind = behindOf file version c count in
       let q : Progress = playing (state .progress) c in
       let writes = taken-writes c (leftOf c - count) behind 0 count 0 count step (takes .is) taken in
-      let index : c .«operation_index» + count ≡ c .«operation_count» - (leftOf c - count) = omega (arith, going .counted, takes .few) in
+      let index : c .at .«operation_index» + count ≡ c .at .«operation_count» - (leftOf c - count) = omega (arith, going .counted, takes .few) in
       let gathers = gather-all state file (limitOf state file c) (c .limit) (going-within state file c going) count (leftOf c) room q (takes .few) (takes .fit) (takes .full) (takes .unbegun) (takes .some) in
-      let placed′ = ap {B = Checked Gathered} (λ (n : ℕ). ok (record { records = plainWrites version file count (c .cursor); room = room - count; progress = placed q behind n 0 (state .progress .«wave_sources») })) index in
-      rw (writes .plainly, writes .from) (step-played state file room c (leftOf c - count) behind 0 count 0 count step e there (plainWrites version file count (c .cursor)) (room - count) (gathers ∙ placed′) (omega arith) (takes .is) taken)
+      let placed′ = ap {B = Checked Gathered} (λ (n : ℕ). ok (record { records = plainWrites version file count (c .at .cursor); room = room - count; progress = placed q behind n 0 (state .progress .«wave_sources») })) index in
+      rw (writes .plainly, writes .from) (step-played state file room c (leftOf c - count) behind 0 count 0 count step e there (plainWrites version file count (c .at .cursor)) (room - count)
+      (gathers ∙ placed′) (omega arith) (takes .is) taken)
 
-pub plain-call : (state : StreamPlayer) (file : List ℕ) (room : ℕ) (c : Current) (step : Step) → c ≡ currentOf file (state .header) (state .cards .count) (state .progress) → step ≡ plainStep file (state .header .version) c room → step .taken ≡ true → call state file room ≡ ok (answerOf state file step)
+pub plain-call : (state : StreamPlayer) (file : List ℕ) (room : ℕ) (c : Current) (step : Step) → c ≡ currentOf file (state .header) (state .cards .count) (state .progress)
+    → step ≡ plainStep file (state .header .version) c room → step .taken ≡ true → call state file room ≡ ok (answerOf state file step)
 plain-call state file room c step e s taken = takes-call state file room c step e taken (plain-takes file (state .header .version) room c step s taken)

@@ -1,49 +1,48 @@
 -- What a plain step that is taken says: how many operations it takes, that all of them are plain WRITEs, and that they stand in the
 -- file.
-use Prim.Native.Nat.{ℕ, _-_, _≤_, _<_}
+use Prim.Native.Nat.{ℕ, _-_, _≤_, _<_, min}
 use mathlib.Core.Bool.{Bool, true, false, cond, not, false≢true}
 use mathlib.Core.List.{List}
 use mathlib.Core.Path.{_≡_, refl, sym, _∙_}
 use native.Mathlib.Omega.{arith}
-use borrow.Author.Tests.{ltb-true, ltb-false, eqb-true}
-use lib.Dec.{eqb, ltb}
+use borrow.Author.Tests.{eqb-true}
+use lib.Dec.{eqb}
 use lib.ListN.{length}
 use Rattle.format.proofs.Checks.{positive}
 use Rattle.plain_writes.specs.Plain.{plainBehind}
 use Rattle.current.specs.declared.Current.{Current}
 use Rattle.current.specs.declared.Step.{Step}
+use Rattle.current.specs.Current.{leftOf}
 use Rattle.current.specs.Step.{noStep, stepTo}
 use Rattle.current.proofs.Stepped.{taken-writes}
-use Rattle.plain_step.specs.PlainStep.{plainStepBy, plainStep}
-
-abbrev pub leftOf : Current → ℕ
-leftOf c = c .«operation_count» - c .«operation_index»
+use Rattle.plain_step.specs.PlainStep.{plainStep}
 
 -- the place behind so many plain WRITEs of the part
 abbrev pub behindOf : List ℕ → (version : ℕ) → Current → (count : ℕ) → ℕ
-behindOf file version c count = plainBehind version file (c .limit) count (c .cursor)
+behindOf file version c count = plainBehind version file (c .limit) count (c .at .cursor)
 
 pub record Takes (file : List ℕ) (version room : ℕ) (c : Current) (step : Step) : Type 0 where
   pub count : ℕ
   pub few : count ≤ leftOf c
   pub fit : count ≤ room
   pub full : count < leftOf c → count ≡ room
-  pub unbegun : c .«write_index» ≡ 0
+  pub unbegun : c .at .«write_index» ≡ 0
   pub some : 0 < behindOf file version c count
   pub is : step ≡ stepTo c (leftOf c - count) (behindOf file version c count) 0 count 0 count
 
 pub plain-takes : (file : List ℕ) (version room : ℕ) (c : Current) (step : Step) → step ≡ plainStep file version c room → step .taken ≡ true → Takes file version room c step
 unfolding plainStep
-plain-takes file version room c step e taken = go (eqb (c .«write_index») 0) refl (ltb room (leftOf c)) refl e
+plain-takes file version room c step e taken = go (eqb (c .at .«write_index») 0) refl (eqb (behindOf file version c count) 0) refl e
   where
-    taking : (count : ℕ) → count ≤ leftOf c → count ≤ room → (count < leftOf c → count ≡ room) → c .«write_index» ≡ 0 → (none : Bool) → eqb (behindOf file version c count) 0 ≡ none → step ≡ cond none noStep (stepTo c (leftOf c - count) (behindOf file version c count) 0 count 0 count) → Takes file version room c step
-    taking count few fit full unbegun true n h = absurd (false≢true (rw h at taken))
-    taking count few fit full unbegun false n h = record { count = count; few = few; fit = fit; full = full; unbegun = unbegun; some = positive _ n; is = h }
+    count : ℕ
+    count = min room (leftOf c)
 
-    go : (unbegun : Bool) → eqb (c .«write_index») 0 ≡ unbegun → (short : Bool) → ltb room (leftOf c) ≡ short → step ≡ cond (not unbegun) noStep (plainStepBy c (leftOf c) (cond short room (leftOf c)) (behindOf file version c (cond short room (leftOf c)))) → Takes file version room c step
-    go false u short s h = absurd (false≢true (rw h at taken))
-    go true u true s h = taking room (omega (arith, ltb-true room (leftOf c) s)) (omega arith) (λ _. refl) (eqb-true _ _ u) _ refl h
-    go true u false s h = taking (leftOf c) (omega arith) (ltb-false room (leftOf c) s) (λ less. absurd (omega (arith, less))) (eqb-true _ _ u) _ refl h
+    go : (unbegun : Bool) → eqb (c .at .«write_index») 0 ≡ unbegun → (none : Bool) → eqb (behindOf file version c count) 0 ≡ none
+        → step ≡ cond (not unbegun) noStep (cond none noStep (stepTo c (leftOf c - count) (behindOf file version c count) 0 count 0 count)) → Takes file version room c step
+    go false u none n h = absurd (false≢true (rw h at taken))
+    go true u true n h = absurd (false≢true (rw h at taken))
+    go true u false n h =
+        record { count = count; few = omega arith; fit = omega arith; full = λ less. omega (arith, less); unbegun = eqb-true _ _ u; some = positive _ n; is = h }
 
 -- what is stored by it
 pub record Plainly (file : List ℕ) (version room : ℕ) (step : Step) : Type 0 where

@@ -1,11 +1,12 @@
 -- The step of a call that takes nothing but plain WRITEs of the part that it goes on with.
-use Prim.Native.Nat.{ℕ, _-_}
+use Prim.Native.Nat.{ℕ, _-_, min}
 use mathlib.Core.Bool.{cond, not}
 use mathlib.Core.List.{List}
-use lib.Dec.{eqb, ltb}
+use lib.Dec.{eqb}
 use Rattle.plain_writes.specs.Plain.{plainBehind}
 use Rattle.current.specs.declared.Current.{Current}
 use Rattle.current.specs.declared.Step.{Step}
+use Rattle.current.specs.Current.{leftOf}
 use Rattle.current.specs.Step.{noStep, stepTo}
 
 -- with as many operations as are taken, and the place behind them
@@ -15,6 +16,6 @@ plainStepBy c left count behind = cond (eqb behind 0) noStep (stepTo c (left - c
 -- as many as are left, or as there is room for; none where writes of the first one are made
 unfoldable pub plainStep : List ℕ → (version : ℕ) → Current → (room : ℕ) → Step
 plainStep file version c room =
-    let left = c .«operation_count» - c .«operation_index» in
-    let count = cond (ltb room left) room left in
-    cond (not (eqb (c .«write_index») 0)) noStep (plainStepBy c left count (plainBehind version file (c .limit) count (c .cursor)))
+    let left = leftOf c in
+    let count = min room left in
+    cond (not (eqb (c .at .«write_index») 0)) noStep (plainStepBy c left count (plainBehind version file (c .limit) count (c .at .cursor)))

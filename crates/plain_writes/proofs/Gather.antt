@@ -5,22 +5,23 @@ use mathlib.Core.List.{List, [], _∷_, _++_, append-nil, append-assoc}
 use mathlib.Core.Path.{_≡_, refl, sym, ap, _∙_}
 use native.Mathlib.Omega.{arith}
 use borrow.Author.Tests.{le-ltb}
-use lib.Dec.{eqb, ltb}
+use lib.Dec.{ltb}
 use Rattle.format.specs.declared.operation.WriteRecord.{WriteRecord}
 use Rattle.format.specs.declared.player.Progress.{Progress}
 use Rattle.format.specs.declared.player.StreamPlayer.{StreamPlayer}
-use Rattle.format.specs.declared.player.WaveSource.{WaveSource}
 use Rattle.format.specs.Checked.{Checked, ok, refused, mapped, _>>=_, _>>_}
 use Rattle.format.specs.Player.{Gathered, placed, wavesBy, bytesAt, gathered}
 use Rattle.plain_writes.specs.Plain.{plainSize, plainAt, plainBehind, plainWrite, plainWrites}
 use Rattle.plain_writes.proofs.Items.{plainOperation, plain-writes, plain-used}
 
 -- so many plain WRITEs: each of them is plain, and the place behind them is by their size
-pub all-plain : (version : ℕ) (file : List ℕ) (end count at : ℕ) → 0 < plainBehind version file end (suc count) at → (plainAt version file end at ≡ true) × (plainBehind version file end (suc count) at ≡ plainBehind version file end count (at + plainSize version))
+pub all-plain : (version : ℕ) (file : List ℕ) (end count at : ℕ) → 0 < plainBehind version file end (suc count) at
+    → (plainAt version file end at ≡ true) × (plainBehind version file end (suc count) at ≡ plainBehind version file end count (at + plainSize version))
 unfolding plainBehind
 all-plain version file end count at some = go (plainAt version file end at) refl some
   where
-    go : (b : Bool) → plainAt version file end at ≡ b → 0 < cond b (plainBehind version file end count (at + plainSize version)) 0 → (plainAt version file end at ≡ true) × (cond (plainAt version file end at) (plainBehind version file end count (at + plainSize version)) 0 ≡ plainBehind version file end count (at + plainSize version))
+    go : (b : Bool) → plainAt version file end at ≡ b → 0 < cond b (plainBehind version file end count (at + plainSize version)) 0
+        → (plainAt version file end at ≡ true) × (cond (plainAt version file end at) (plainBehind version file end count (at + plainSize version)) 0 ≡ plainBehind version file end count (at + plainSize version))
     go true e h = (e, rw e)
     go false e h = absurd (omega (arith, h))
 
@@ -46,30 +47,25 @@ stays p none =
     let index : p .«operation_index» + 0 ≡ p .«operation_index» = omega arith in
     ap (λ (n : ℕ). placed p (p .cursor) n 0 (p .«wave_sources»)) index ∙ ap (λ (n : ℕ). placed p (p .cursor) (p .«operation_index») n (p .«wave_sources»)) (sym none)
 
--- it sets no wave source
-plain-waves : (version : ℕ) (file : List ℕ) (at directory : ℕ) (waves : List WaveSource) → wavesBy file directory (plainOperation version file at) waves ≡ waves
-unfolding wavesBy
-plain-waves version file at directory waves = go (eqb version 1) refl
-  where
-    go : (b : Bool) → eqb version 1 ≡ b → wavesBy file directory (plainOperation version file at) waves ≡ waves
-    go true e = rw e
-    go false e = rw e
-
 module _ (state : StreamPlayer) (file : List ℕ) (limit end : ℕ) (within : end ≤ limit) where
   abbrev version : ℕ
   version = state .header .version
 
   -- one plain WRITE
-  gather-one : (left room : ℕ) (p : Progress) → p .«write_index» ≡ 0 → plainAt version file end (p .cursor) ≡ true → gathered state file limit (suc left) (suc room) p ≡ mapped (after (plainWrite version file (p .cursor) ∷ [])) (gathered state file limit left room (placed p (p .cursor + plainSize version) (p .«operation_index» + 1) 0 (p .«wave_sources»)))
+  gather-one : (left room : ℕ) (p : Progress) → p .«write_index» ≡ 0 → plainAt version file end (p .cursor) ≡ true
+      → gathered state file limit (suc left) (suc room) p
+      ≡ mapped (after (plainWrite version file (p .cursor) ∷ [])) (gathered state file limit left room (placed p (p .cursor + plainSize version) (p .«operation_index» + 1) 0 (p .«wave_sources»)))
   unfolding gathered wavesBy
   gather-one left room p none plain =
       let one : ltb (suc room) 1 ≡ false = le-ltb (suc room) 1 (omega arith) in
       let rest : suc room - 1 ≡ room = omega arith in
-      rw (plain-used state file limit end (p .cursor) within plain, plain-writes (bytesAt file (state .header .«directory_offset»)) version file (p .cursor), none, plain-waves version file (p .cursor) (state .header .«directory_offset») (p .«wave_sources»), one, rest)
+      rw (plain-used state file limit end (p .cursor) within plain, plain-writes (bytesAt file (state .header .«directory_offset»)) version file (p .cursor), none, one, rest)
       (then-after (plainWrite version file (p .cursor) ∷ []) (gathered state file limit left room (placed p (p .cursor + plainSize version) (p .«operation_index» + 1) 0 (p .«wave_sources»))))
 
   -- so many of them
-  pub gather-plain : (count left room : ℕ) (p : Progress) → p .«write_index» ≡ 0 → 0 < plainBehind version file end count (p .cursor) → gathered state file limit (count + left) (count + room) p ≡ mapped (after (plainWrites version file count (p .cursor))) (gathered state file limit left room (placed p (plainBehind version file end count (p .cursor)) (p .«operation_index» + count) 0 (p .«wave_sources»)))
+  pub gather-plain : (count left room : ℕ) (p : Progress) → p .«write_index» ≡ 0 → 0 < plainBehind version file end count (p .cursor)
+      → gathered state file limit (count + left) (count + room) p
+      ≡ mapped (after (plainWrites version file count (p .cursor))) (gathered state file limit left room (placed p (plainBehind version file end count (p .cursor)) (p .«operation_index» + count) 0 (p .«wave_sources»)))
   unfolding plainBehind plainWrites
   gather-plain zero left room p none some =
       let left′ : 0 + left ≡ left = omega arith in
@@ -82,7 +78,8 @@ module _ (state : StreamPlayer) (file : List ℕ) (limit end : ℕ) (within : en
       let plain = all-plain version file end count (p .cursor) some in
       let onward : Progress = placed p (p .cursor + plainSize version) (p .«operation_index» + 1) 0 (p .«wave_sources») in
       rw (left′, room′, gather-one (count + left) (count + room) p none (plain .0), gather-plain count left room onward refl (rw (plain .1) at some), plain .1, index)
-      (after-after (plainWrite version file (p .cursor) ∷ []) (plainWrites version file count (p .cursor + plainSize version)) (gathered state file limit left room (placed p (plainBehind version file end count (p .cursor + plainSize version)) (p .«operation_index» + suc count) 0 (p .«wave_sources»))))
+      (after-after (plainWrite version file (p .cursor) ∷ []) (plainWrites version file count (p .cursor + plainSize version))
+      (gathered state file limit left room (placed p (plainBehind version file end count (p .cursor + plainSize version)) (p .«operation_index» + suc count) 0 (p .«wave_sources»))))
 
   -- where no operation is left, or no room
   at-rest : (left room : ℕ) (p : Progress) → (0 < left → room ≡ 0) → gathered state file limit left room p ≡ ok (record { records = []; room = room; progress = p })
@@ -91,7 +88,13 @@ module _ (state : StreamPlayer) (file : List ℕ) (limit end : ℕ) (within : en
   at-rest (suc left) room p full = rw (full (omega arith))
 
   -- as many as are left, or as there is room for
-  pub gather-all : (count left room : ℕ) (p : Progress) → count ≤ left → count ≤ room → (count < left → count ≡ room) → p .«write_index» ≡ 0 → 0 < plainBehind version file end count (p .cursor) → gathered state file limit left room p ≡ ok (record { records = plainWrites version file count (p .cursor); room = room - count; progress = placed p (plainBehind version file end count (p .cursor)) (p .«operation_index» + count) 0 (p .«wave_sources») })
+  pub gather-all : (count left room : ℕ) (p : Progress) → count ≤ left → count ≤ room → (count < left → count ≡ room) → p .«write_index» ≡ 0
+      → 0 < plainBehind version file end count (p .cursor)
+      → gathered state file limit left room p ≡ ok (record {
+        records = plainWrites version file count (p .cursor);
+        room = room - count;
+        progress = placed p (plainBehind version file end count (p .cursor)) (p .«operation_index» + count) 0 (p .«wave_sources»);
+      })
   gather-all count left room p few fit full none some =
       let left′ : count + (left - count) ≡ left = omega arith in
       let room′ : count + (room - count) ≡ room = omega arith in

@@ -3,25 +3,29 @@ use Prim.Native.Nat.{ℕ, _+_, _≤_}
 use mathlib.Core.Path.{_≡_, refl}
 use mathlib.Core.Bool.{Bool, true, false, cond, _&&_, and-false}
 use mathlib.Core.List.{List, [], _∷_}
-use native.Mathlib.Nat.{add-zero}
 use native.Mathlib.Omega.{arith}
 use borrow.Author.Tests.{ltb-true, leb-true, eqb-true, le-ltb, lt-leb}
-use lib.Dec.{eqb, leb, ltb}
+use lib.Dec.{eqb, leb, ltb, lit≤}
 use Rattle.format.specs.declared.card.CardRequirement.{CardRequirement}
 use Rattle.format.specs.declared.operation.Operation.{Operation}
 use Rattle.format.specs.declared.operation.Operation.the-variants.{Write}
 use Rattle.format.specs.declared.player.StreamPlayer.{StreamPlayer}
-use Rattle.format.specs.Bytes.{byte, be, part}
+use Rattle.format.specs.Bytes.{part}
 use Rattle.format.specs.Card.{cardsOf}
 use Rattle.format.specs.Checked.{ok}
-use Rattle.format.specs.Operation.{addressWidth, sizeOf, fieldsAt, writeRules, allowed, operationAt, recordAt, itemAt}
-use Rattle.format.specs.Player.{cardUsed, poolsUsed, itemUsed}
+use Rattle.format.specs.Operation.{addressWidth, sizeOf, writeRules, allowed}
+use Rattle.format.specs.Player.{settingIn, cardUsed, poolsUsed, itemUsed}
 use Rattle.format.specs.Target.{targetOf}
 use Rattle.format.specs.Writes.{upward, writesWith}
-use Rattle.format.proofs.Bytes.{byte-part, be-part}
+use Rattle.fields.specs.declared.decode.Decoded.{Decoded}
+use Rattle.fields.specs.Decoded.{decodedOperation, decodedRecord, decodedItem, operationOf}
+use Rattle.fields.proofs.Laws.{item-decoded}
+use Rattle.fields_known.specs.Known.{writeValue}
+use Rattle.fields_known.proofs.Laws.{write-value}
 use Rattle.format.proofs.Checks.{and-true}
-use Rattle.format.proofs.Sizes.{size-is, width-range}
-use Rattle.plain_writes.specs.Plain.{plainEnd, plainSize, plainIn, plainAt, plainWrite}
+use Rattle.format.proofs.Sizes.{size-most, width-range}
+use Rattle.format.specs.Size.{recordSize}
+use Rattle.plain_writes.specs.Plain.{plainEnd, plainSize, plainIn, plainAt, plainValue, plainWrite}
 
 -- THE RULES
 
@@ -59,13 +63,17 @@ plain-allowed version cards at target address e = core (ltb target 2) refl e
     three true v h = bank (eqb target 3) refl v h
     three false v h = four (eqb version 4) refl h
 
-    pcm : (b : Bool) → eqb target 2 ≡ b → ltb address (cond b 0x100000 (cond (eqb version 3) (cond (eqb target 3) 0x2000000 0) (cond (eqb version 4) (cond (eqb target 11) 0x40 0) 0))) ≡ true → Allowed version cards at target address
+    pcm : (b : Bool) → eqb target 2 ≡ b
+        → ltb address (cond b 0x100000 (cond (eqb version 3) (cond (eqb target 3) 0x2000000 0) (cond (eqb version 4) (cond (eqb target 11) 0x40 0) 0))) ≡ true
+        → Allowed version cards at target address
     pcm false t h = three (eqb version 3) refl h
     pcm true t h =
         let is : target ≡ 2 = eqb-true target 2 t in
         (rw (is, le-ltb 0xFFFFF address (omega (arith, ltb-true address 0x100000 h))), rw (is, and-false))
 
-    core : (b : Bool) → ltb target 2 ≡ b → ltb address (cond b 0x900 (cond (eqb target 2) 0x100000 (cond (eqb version 3) (cond (eqb target 3) 0x2000000 0) (cond (eqb version 4) (cond (eqb target 11) 0x40 0) 0)))) ≡ true → Allowed version cards at target address
+    core : (b : Bool) → ltb target 2 ≡ b
+        → ltb address (cond b 0x900 (cond (eqb target 2) 0x100000 (cond (eqb version 3) (cond (eqb target 3) 0x2000000 0) (cond (eqb version 4) (cond (eqb target 11) 0x40 0) 0)))) ≡ true
+        → Allowed version cards at target address
     core false more h = pcm (eqb target 2) refl h
     core true less h =
         (rw (less, le-ltb 0x8FF address (omega (arith, ltb-true address 0x900 h))), rw (lt-leb 3 target (omega (arith, ltb-true target 2 less)), and-false))
@@ -75,48 +83,57 @@ plain-allowed version cards at target address e = core (ltb target 2) refl e
 -- a plain WRITE as the operation that it is
 abbrev pub plainOperation : (version : ℕ) → List ℕ → (at : ℕ) → Operation
 plainOperation version file at =
-    cond (eqb version 1) (Write (byte file at) (be 3 file (at + 1)) (byte file (at + 4)))
-    (Write (byte file (at + 1)) (be (addressWidth version) file (at + 2)) (byte file (at + 2 + addressWidth version)))
+    let bytes = part file at 16 in
+    let item = decodedItem version bytes in
+    Write (item .target) (item .address) (plainValue version bytes)
 
 pub plain-writes : (bytes : ℕ → List ℕ) (version : ℕ) (file : List ℕ) (at : ℕ) → writesWith bytes (plainOperation version file at) ≡ plainWrite version file at ∷ []
 unfolding writesWith upward plainWrite
-plain-writes bytes version file at = go (eqb version 1) refl
+plain-writes bytes version file at = refl
+
+-- the reader's size of it
+plain-size : (version : ℕ) (bytes : List ℕ) → decodedItem version bytes .opcode ≡ 0 → decodedItem version bytes .size ≡ plainSize version
+unfolding decodedItem decodedRecord decodedOperation plainSize
+plain-size version bytes = go (eqb version 1)
   where
-    go : (b : Bool) → eqb version 1 ≡ b → writesWith bytes (plainOperation version file at) ≡ plainWrite version file at ∷ []
-    go true e = rw e
+    go : (b : Bool) → cond b (decodedRecord bytes) (decodedOperation (addressWidth version) bytes) .opcode ≡ 0
+        → cond b (decodedRecord bytes) (decodedOperation (addressWidth version) bytes) .size ≡ cond b recordSize (sizeOf (addressWidth version) 0)
+    go true e = refl
     go false e = rw e
+
+-- and its value
+plain-value : (version : ℕ) (bytes : List ℕ) → decodedItem version bytes .opcode ≡ 0 → plainValue version bytes ≡ decodedItem version bytes .value
+unfolding decodedItem decodedOperation plainValue
+plain-value version bytes = go (eqb version 1)
+  where
+    go : (b : Bool) → cond b (decodedRecord bytes) (decodedOperation (addressWidth version) bytes) .opcode ≡ 0
+        → cond b (decodedRecord bytes .value) (writeValue (addressWidth version) bytes) ≡ cond b (decodedRecord bytes) (decodedOperation (addressWidth version) bytes) .value
+    go true e = refl
+    go false e = write-value (addressWidth version) bytes e
+
+-- it has at most 16 bytes
+pub size-small : (version : ℕ) → plainSize version ≤ 16
+unfolding plainSize
+size-small version = go (eqb version 1)
+  where
+    go : (b : Bool) → cond b recordSize (sizeOf (addressWidth version) 0) ≤ 16
+    go true = lit≤ tt
+    go false = size-most (addressWidth version) 0 (width-range version .0) (width-range version .1) (omega arith)
 
 module _ (state : StreamPlayer) (file : List ℕ) (limit end at : ℕ) (within : end ≤ limit) where
   abbrev version : ℕ
   version = state .header .version
 
-  -- a record of version 1
-  record-used : eqb version 1 ≡ true → at + 16 ≤ end → ltb (be 3 (part file at 16) 1) (plainEnd version (byte (part file at 16) 0)) ≡ true → itemUsed state file limit at ≡ ok (record { operation = plainOperation version file at; next = at + plainSize version })
-  unfolding itemUsed itemAt recordAt allowed cardUsed poolsUsed plainSize
-  record-used one room e =
-      let first : byte (part file at 16) 0 ≡ byte file at = rw add-zero at (byte-part file at 16 0 (omega arith)) in
-      let rules = plain-allowed version (cardsOf (state .cards)) at (byte file at) (be 3 file (at + 1)) (rw (first, be-part 3 file at 16 1 (omega arith)) at e) in
-      rw (one, le-ltb limit (at + 5) (omega arith), rules .0, rules .1)
-
-  -- a WRITE of another version
-  write-used : eqb version 1 ≡ false → at + 16 ≤ end → eqb (byte (part file at 16) 0) 0 ≡ true → ltb (be (addressWidth version) (part file at 16) 2) (plainEnd version (byte (part file at 16) 1)) ≡ true → itemUsed state file limit at ≡ ok (record { operation = plainOperation version file at; next = at + plainSize version })
-  unfolding itemUsed itemAt operationAt fieldsAt allowed cardUsed poolsUsed plainSize
-  write-used pooled room opcode e =
-      let range = width-range version in
-      let width = addressWidth version in
-      let first : byte file at ≡ 0 = rw (byte-part file at 16 0 (omega arith), add-zero) at (eqb-true (byte (part file at 16) 0) 0 opcode) in
-      let size : sizeOf width 0 ≡ 3 + width = omega (arith, size-is width 0 (range .0) (range .1) (omega arith)) in
-      let rules = plain-allowed version (cardsOf (state .cards)) at (byte file (at + 1)) (be width file (at + 2)) (rw (byte-part file at 16 1 (omega arith), be-part width file at 16 2 (omega arith)) at e) in
-      rw (pooled, lt-leb limit at (omega arith), first, size, le-ltb limit (at + (3 + width)) (omega arith), rules .0, rules .1)
+  abbrev item : Decoded
+  item = decodedItem version (part file at 16)
 
   pub plain-used : plainAt version file end at ≡ true → itemUsed state file limit at ≡ ok (record { operation = plainOperation version file at; next = at + plainSize version })
-  unfolding plainAt plainIn
+  unfolding plainAt plainIn itemUsed allowed cardUsed poolsUsed operationOf
   plain-used e =
       let both = and-true (leb (at + 16) end) _ e in
-      go (eqb version 1) refl (leb-true (at + 16) end (both .0)) (both .1)
-    where
-      go : (b : Bool) → eqb version 1 ≡ b → at + 16 ≤ end → cond b (ltb (be 3 (part file at 16) 1) (plainEnd version (byte (part file at 16) 0))) (eqb (byte (part file at 16) 0) 0 && ltb (be (addressWidth version) (part file at 16) 2) (plainEnd version (byte (part file at 16) 1))) ≡ true → itemUsed state file limit at ≡ ok (record { operation = plainOperation version file at; next = at + plainSize version })
-      go true v room h = record-used v room h
-      go false v room h =
-          let both = and-true (eqb (byte (part file at 16) 0) 0) _ h in
-          write-used v room (both .0) (both .1)
+      let plain = and-true (eqb (item .opcode) 0) _ (both .1) in
+      let write : item .opcode ≡ 0 = eqb-true (item .opcode) 0 (plain .0) in
+      let size = plain-size version (part file at 16) write in
+      let room = leb-true (at + 16) end (both .0) in
+      let rules = plain-allowed version (cardsOf (state .cards)) at (item .target) (item .address) (plain .1) in
+      rw (item-decoded (settingIn state file) file limit at (omega (arith, write)) (omega (arith, size, size-small version)), write, rules .0, size, rules .1, plain-value version (part file at 16) write)

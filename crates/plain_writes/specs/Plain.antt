@@ -4,9 +4,12 @@ use mathlib.Core.Bool.{Bool, cond, _&&_}
 use mathlib.Core.List.{List, [], _∷_}
 use lib.Dec.{eqb, leb, ltb}
 use Rattle.format.specs.declared.operation.WriteRecord.{WriteRecord}
-use Rattle.format.specs.Bytes.{byte, be, part}
-use Rattle.format.specs.Operation.{addressWidth}
+use Rattle.format.specs.Bytes.{part}
+use Rattle.format.specs.Operation.{addressWidth, sizeOf}
+use Rattle.format.specs.Size.{recordSize}
 use Rattle.format.specs.Writes.{write}
+use Rattle.fields.specs.Decoded.{decodedRecord, decodedItem}
+use Rattle.fields_known.specs.Known.{writeValue}
 
 -- the address behind the last one of such a target; 0 for the others
 unfoldable pub plainEnd : (version target : ℕ) → ℕ
@@ -16,15 +19,15 @@ plainEnd version target =
     (cond (eqb version 3) (cond (eqb target 3) 0x2000000 0)
     (cond (eqb version 4) (cond (eqb target 11) 0x40 0) 0)))
 
--- how many bytes it has
+-- how many bytes it has: a record of version 1, or a WRITE
 unfoldable pub plainSize : (version : ℕ) → ℕ
-plainSize version = cond (eqb version 1) 5 (3 + addressWidth version)
+plainSize version = cond (eqb version 1) recordSize (sizeOf (addressWidth version) 0)
 
--- whether bytes begin with one: a record of version 1, or an operation with the opcode 0
+-- whether bytes begin with one
 unfoldable pub plainIn : (version : ℕ) → List ℕ → Bool
 plainIn version bytes =
-    cond (eqb version 1) (ltb (be 3 bytes 1) (plainEnd version (byte bytes 0)))
-    (eqb (byte bytes 0) 0 && ltb (be (addressWidth version) bytes 2) (plainEnd version (byte bytes 1)))
+    let item = decodedItem version bytes in
+    eqb (item .opcode) 0 && ltb (item .address) (plainEnd version (item .target))
 
 -- whether one stands at a place that is 16 bytes before an end
 unfoldable pub plainAt : (version : ℕ) → List ℕ → (end at : ℕ) → Bool
@@ -35,11 +38,16 @@ unfoldable pub plainBehind : (version : ℕ) → List ℕ → (end count at : �
 plainBehind version file end zero at = at
 plainBehind version file end (suc count) at = cond (plainAt version file end at) (plainBehind version file end count (at + plainSize version)) 0
 
+-- the value of one
+unfoldable pub plainValue : (version : ℕ) → List ℕ → ℕ
+plainValue version bytes = cond (eqb version 1) (decodedRecord bytes .value) (writeValue (addressWidth version) bytes)
+
 -- the write of one
 unfoldable pub plainWrite : (version : ℕ) → List ℕ → (at : ℕ) → WriteRecord
 plainWrite version file at =
-    cond (eqb version 1) (write (byte file at) (be 3 file (at + 1)) (byte file (at + 4)))
-    (write (byte file (at + 1)) (be (addressWidth version) file (at + 2)) (byte file (at + 2 + addressWidth version)))
+    let bytes = part file at 16 in
+    let item = decodedItem version bytes in
+    write (item .target) (item .address) (plainValue version bytes)
 
 -- and of so many
 unfoldable pub plainWrites : (version : ℕ) → List ℕ → (count at : ℕ) → List WriteRecord

@@ -1,11 +1,14 @@
 // Plain WRITEs: records and WRITEs to a target whose limit needs no card, which are a core, PCM memory, version 3's target 3 and
 // version 4's target 11. A run of them is passed by a loop that looks at nothing of the player's state.
-use big_endian::byte_at;
-use big_endian::read_u24;
 use big_endian::window;
+use fields::address_in;
+use fields::address_width;
+use fields::decode_record;
+use fields::opcode_in;
+use fields::operation_size;
+use fields::target_in;
+use format::RECORD_SIZE;
 use targets::Target;
-use widths::address_width;
-use widths::read_address;
 ghost use mathlib.Core.Path.{_≡_};
 ghost use Prim.Native.Nat.{_≤_};
 ghost use lib.ListN.{length};
@@ -38,12 +41,12 @@ fn plain_end(version: u8, target: u8) -> u32
 
 // How many bytes a plain WRITE has.
 pub fn plain_size(version: u8) -> usize
-    ensures { λ r. ⌜ (r ≡ plainSize version) × (r ≤ 7) ⌝ }
+    ensures { λ r. ⌜ (r ≡ plainSize version) × (r ≤ 16) ⌝ }
 {
     if version == 1 {
-        return 5;
+        return RECORD_SIZE;
     }
-    3 + address_width(version)
+    operation_size(address_width(version), 0)
 }
 
 // Whether 16 bytes begin with one.
@@ -51,13 +54,14 @@ fn plain_in(version: u8, bytes: &[u8]) -> bool
     ensures { λ r. ⌜ r ≡ plainIn version (now (bytes .entry)) ⌝ }
 {
     if version == 1 {
-        return read_u24(bytes, 1) < plain_end(version, byte_at(bytes, 0));
+        let record = decode_record(bytes);
+        return record.address < plain_end(version, record.target);
     }
-    if byte_at(bytes, 0) != 0 {
+    if opcode_in(bytes) != 0 {
         return false;
     }
-    let address = read_address(bytes, address_width(version), 2);
-    address < plain_end(version, byte_at(bytes, 1))
+    let target = target_in(bytes);
+    address_in(bytes, address_width(version)) < plain_end(version, target)
 }
 
 // The place behind so many of them; 0 where one is not plain or has no 16 bytes before the end.

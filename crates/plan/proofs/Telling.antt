@@ -35,24 +35,40 @@ later-told state count t true e = rw e
 later-told state count t false e = rw e
 
 -- a frame, with no operation left or some
-frame-done : (state : StreamPlayer) (count : ℕ) (p : Progress) (no done : Bool) → takenTold state (cond done (record { refused = no; count = count; complete = true; progress = frameEnded p }) (record { refused = no; count = count; complete = false; progress = p })) ≡ cond no (noPlan state) (record { number = 0; count = count; complete = done; next = moved state (cond done (frameEnded p) p) })
+frame-done : (state : StreamPlayer) (count : ℕ) (p : Progress) (no done : Bool)
+    → takenTold state (cond done (record { refused = no; count = count; complete = true; progress = frameEnded p }) (record { refused = no; count = count; complete = false; progress = p }))
+    ≡ cond no (noPlan state) (record { number = 0; count = count; complete = done; next = moved state (cond done (frameEnded p) p) })
 frame-done state count p true true = refl
 frame-done state count p true false = refl
 frame-done state count p false true = refl
 frame-done state count p false false = refl
 
-pub told-frame : (state : StreamPlayer) (file : List ℕ) (room : ℕ) (p : Progress) (r : Paced) → paceOf r ≡ as25 (paced state file (length file) (operationsLeft p) room p) → takenTold state (ended (takenBy room r)) ≡ planTold state (planFrame state file room p)
+pub told-frame : (state : StreamPlayer) (file : List ℕ) (room : ℕ) (p : Progress) (r : Paced) → paceOf r ≡ as25 (paced state file (length file) (operationsLeft p) room p)
+    → takenTold state (ended (takenBy room r)) ≡ planTold state (planFrame state file room p)
 unfolding planFrame
 told-frame state file room p r e =
     rw (told-bind state (paced state file (length file) (operationsLeft p) room p), ← e)
     (frame-done state (room - r .room) (r .progress) (r .refused) (eqb (operationsLeft (r .progress)) 0) ∙ go (r .refused))
   where
-    go : (no : Bool) → cond no (noPlan state) (record { number = 0; count = room - r .room; complete = eqb (operationsLeft (r .progress)) 0; next = moved state (cond (eqb (operationsLeft (r .progress)) 0) (frameEnded (r .progress)) (r .progress)) }) ≡ planTold state (cond no (refused 25 0) (ok (r .room, r .progress)) >>= λ (found : ℕ × Progress). ok (record { count = room - found .0; complete = eqb (operationsLeft (found .1)) 0; next = moved state (cond (eqb (operationsLeft (found .1)) 0) (frameEnded (found .1)) (found .1)) }))
+    go : (no : Bool)
+        → cond no (noPlan state) (record {
+          number = 0;
+          count = room - r .room;
+          complete = eqb (operationsLeft (r .progress)) 0;
+          next = moved state (cond (eqb (operationsLeft (r .progress)) 0) (frameEnded (r .progress)) (r .progress));
+        }) ≡ planTold state (cond no (refused 25 0) (ok (r .room, r .progress)) >>= λ (found : ℕ × Progress). ok (record {
+          count = room - found .0;
+          complete = eqb (operationsLeft (found .1)) 0;
+          next = moved state (cond (eqb (operationsLeft (found .1)) 0) (frameEnded (found .1)) (found .1));
+        }))
     go true = refl
     go false = refl
 
 -- a frame that begins behind so many writes
-pub told-behind : (state : StreamPlayer) (file : List ℕ) (count room cursor : ℕ) (p : Progress) (t : Taken) → takenTold state t ≡ planTold state (planBegun state file room cursor 0 p) → takenTold state (behind count t) ≡ planTold state (frameBegun file cursor 0 p >>= λ (frame : Progress). planFrame state file room frame >>= λ (more : Plan). ok (record { count = count + more .count; complete = more .complete; next = more .next }))
+pub told-behind : (state : StreamPlayer) (file : List ℕ) (count room cursor : ℕ) (p : Progress) (t : Taken)
+    → takenTold state t ≡ planTold state (planBegun state file room cursor 0 p)
+    → takenTold state (behind count t)
+    ≡ planTold state (frameBegun file cursor 0 p >>= λ (frame : Progress). planFrame state file room frame >>= λ (more : Plan). ok (record { count = count + more .count; complete = more .complete; next = more .next }))
 told-behind state file count room cursor p t e =
     later-told state count t (t .refused) refl ∙ ap (later count) e ∙ begun (frameBegun file cursor 0 p)
   where
@@ -60,7 +76,9 @@ told-behind state file count room cursor p t e =
     joined (ok plan) = refl
     joined (refused number place) = refl
 
-    begun : (frame : Checked Progress) → later count (planTold state (frame >>= planFrame state file room)) ≡ planTold state (frame >>= λ (q : Progress). planFrame state file room q >>= λ (more : Plan). ok (record { count = count + more .count; complete = more .complete; next = more .next }))
+    begun : (frame : Checked Progress)
+        → later count (planTold state (frame >>= planFrame state file room))
+        ≡ planTold state (frame >>= λ (q : Progress). planFrame state file room q >>= λ (more : Plan). ok (record { count = count + more .count; complete = more .complete; next = more .next }))
     begun (refused number place) = refl
     begun (ok q) = joined (planFrame state file room q)
 
@@ -69,6 +87,8 @@ pub told-closing : (state : StreamPlayer) (room : ℕ) (p : Progress) → takenT
 unfolding planClosing
 told-closing state room p = go (ltb (cond (state .«uses_si22») 33 32) (p .«write_index»)) _ _ _
   where
-    go : (wrong : Bool) (count : ℕ) (done : Bool) (after : Progress) → takenTold state (cond wrong (nothing p) (record { refused = false; count = count; complete = done; progress = after })) ≡ planTold state (refuse 25 0 wrong >> ok (record { count = count; complete = done; next = moved state after }))
+    go : (wrong : Bool) (count : ℕ) (done : Bool) (after : Progress)
+        → takenTold state (cond wrong (nothing p) (record { refused = false; count = count; complete = done; progress = after }))
+        ≡ planTold state (refuse 25 0 wrong >> ok (record { count = count; complete = done; next = moved state after }))
     go true count done after = refl
     go false count done after = refl

@@ -7,7 +7,7 @@ use Rattle.format.specs.declared.player.Part.the-variants.{Between}
 use Rattle.format.specs.declared.player.Progress.{Progress}
 use Rattle.format.specs.declared.player.StreamPlayer.{StreamPlayer}
 use Rattle.format.specs.Checked.{Checked, ok, refused, _>>=_}
-use Rattle.format.specs.Pace.{Plan, planFrame, plan}
+use Rattle.format.specs.Pace.{Plan, planFrame, closingCount, plan}
 use Rattle.format.specs.Player.{frameBegun, frameEnded, closingAt, operationsLeft}
 use Rattle.format.specs.State.{moved}
 use Rattle.pace.specs.declared.operations.Paced.{Paced}
@@ -51,12 +51,14 @@ behind count t = record { refused = t .refused; count = count + t .count; comple
 -- of the closing writes
 abbrev pub closingTaken : (si22 : Bool) → (room : ℕ) → Progress → Taken
 closingTaken si22 room p =
-    cond (ltb (cond si22 33 32) (p .«write_index»)) (nothing p) (record { refused = false; count = min room (cond si22 33 32 - p .«write_index»); complete = leb (cond si22 33 32 - p .«write_index») room; progress = closingAt (p .«write_index» + min room (cond si22 33 32 - p .«write_index»)) (leb (cond si22 33 32 - p .«write_index») room) p })
-
--- no operation of a part is done
-abbrev pub begun : (part cursor operations frame : ℕ) → (initialized : Bool) → Progress → Progress
-begun part cursor operations frame initialized p =
-    record { part = part; cursor = cursor; «operation_index» = 0; «operation_count» = operations; «write_index» = 0; «frame_index» = frame; initialized = initialized; finished = false; «wave_sources» = p .«wave_sources» }
+    let rest = closingCount si22 - p .«write_index» in
+    cond (ltb (closingCount si22) (p .«write_index»)) (nothing p)
+    (record {
+      refused = false;
+      count = min room rest;
+      complete = leb rest room;
+      progress = closingAt (p .«write_index» + min room rest) (leb rest room) p;
+    })
 
 -- PLANS
 

@@ -3,7 +3,6 @@ use crate::closing::plan_closing;
 use crate::frame::begin_frame;
 use crate::frame::plan_frame;
 use crate::opening::plan_opening;
-use crate::progress::begun;
 use crate::taken::Taken;
 use belongs::foreign;
 use format::Part;
@@ -11,6 +10,8 @@ use format::Progress;
 use format::StreamPlayer;
 use state::closing_at;
 use state::moved;
+use state::next_part;
+use state::opening_begun;
 use state::part_of;
 ghost use mathlib.Core.Path.{_≡_};
 ghost use Rattle.format.specs.Pace.{plan, planned};
@@ -26,28 +27,17 @@ pub struct CallPlan {
     pub next: StreamPlayer,
 }
 
-// Between vsyncs the next one begins: the opening, the next frame, frame 1 again, or the closing writes.
+// Between vsyncs the next one begins.
 fn plan_between(file: &[u8], state: StreamPlayer, room: usize, progress: Progress) -> Taken
     ensures { λ r. ⌜ takenTold state r ≡ planTold state (planBetween state (now (file .entry)) room progress) ⌝ }
 {
-    if !progress.initialized {
-        let opening = state.header.initial_start as usize;
-        let start = begun(
-            Part::OPENING,
-            opening,
-            state.header.initial_count,
-            0,
-            false,
-            progress,
-        );
-        return plan_opening(file, state, room, start);
+    let header = state.header;
+    let next = next_part(header, progress);
+    if next.part == Part::OPENING {
+        return plan_opening(file, state, room, opening_begun(header, progress));
     }
-    let frame = progress.frame_index;
-    if frame < state.header.frame_count {
-        return begin_frame(file, state, room, progress.cursor, frame, progress);
-    }
-    if state.header.repeat {
-        return begin_frame(file, state, room, state.header.frame_start, 0, progress);
+    if next.part == Part::FRAME {
+        return begin_frame(file, state, room, next.place, next.frame, progress);
     }
     plan_closing(state.uses_si22, room, closing_at(progress, 0, false))
 }

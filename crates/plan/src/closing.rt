@@ -1,32 +1,12 @@
 // What a call takes of the closing writes.
 use crate::taken::Taken;
 use crate::taken::refused_part;
+use big_endian::smaller;
 use format::Progress;
 use state::closing_at;
+use state::closing_count;
 ghost use mathlib.Core.Path.{_≡_};
-ghost use mathlib.Core.Bool.{cond};
-ghost use Prim.Native.Nat.{min};
 ghost use Rattle.plan.specs.Told.{closingTaken};
-
-// How many closing writes there are: one more with target 11.
-fn closing_count(si22: bool) -> u32
-    ensures { λ r. ⌜ r ≡ cond si22 33 32 ⌝ }
-{
-    if si22 {
-        return 33;
-    }
-    32
-}
-
-// How many of so many writes there is room for.
-fn fitting(room: usize, writes: u32) -> u32
-    ensures { λ r. ⌜ r ≡ min room writes ⌝ }
-{
-    if room < writes as usize {
-        return room as u32;
-    }
-    writes
-}
 
 pub fn plan_closing(si22: bool, room: usize, progress: Progress) -> Taken
     ensures { λ r. ⌜ r ≡ closingTaken si22 room progress ⌝ }
@@ -37,7 +17,7 @@ pub fn plan_closing(si22: bool, room: usize, progress: Progress) -> Taken
         return refused_part(progress);
     }
     let rest = total - made;
-    let count = fitting(room, rest);
+    let count = smaller(room, rest as usize) as u32;
     let complete = rest as usize <= room;
     let after = closing_at(progress, made + count, complete);
     Taken {

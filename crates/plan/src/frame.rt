@@ -1,14 +1,16 @@
 // What a call takes of a frame.
-use crate::progress::begun;
 use crate::taken::Taken;
 use crate::taken::refused_part;
 use crate::taken::taken_by;
+use big_endian::passes;
 use big_endian::read_u16;
-use format::Part;
+use format::COUNT_SIZE;
 use format::Progress;
 use format::StreamPlayer;
-use pace::operations_left;
 use pace::pace;
+use state::frame_begun;
+use state::frame_ended;
+use state::operations_left;
 ghost use mathlib.Core.Path.{_≡_};
 ghost use Prim.Native.Nat.{_+_, _^_, _≤_, _<_};
 ghost use Rattle.format.specs.Pace.{planFrame};
@@ -19,17 +21,10 @@ fn ended(taken: Taken) -> Taken
     ensures { λ r. ⌜ (r ≡ ended taken) × (r .count ≡ taken .count) ⌝ }
 {
     let progress = taken.progress;
-    if operations_left(progress) != 0 {
+    if operations_left(progress.operation_index, progress.operation_count) != 0 {
         return taken;
     }
-    let over = begun(
-        Part::BETWEEN,
-        progress.cursor,
-        0,
-        progress.frame_index,
-        true,
-        progress,
-    );
+    let over = frame_ended(progress);
     Taken {
         refused: taken.refused,
         count: taken.count,
@@ -57,13 +52,10 @@ pub fn begin_frame(
     requires { ⌜ frame + 1 < 2 ^ 32 ⌝ }
     ensures { λ r. ⌜ (takenTold state r ≡ planTold state (planBegun state (now (file .entry)) room cursor frame progress)) × (r .count ≤ room) ⌝ }
 {
-    if file.len() < 2 {
-        return refused_part(progress);
-    }
-    if file.len() - 2 < cursor {
+    if passes(file.len(), cursor, COUNT_SIZE) {
         return refused_part(progress);
     }
     let count = read_u16(file, cursor) as u32;
-    let start = begun(Part::FRAME, cursor + 2, count, frame + 1, true, progress);
+    let start = frame_begun(cursor + COUNT_SIZE, count, frame + 1, progress);
     plan_frame(file, state, room, start)
 }

@@ -4,7 +4,6 @@ mod call;
 mod closing;
 mod frame;
 mod opening;
-mod progress;
 mod taken;
 
 pub use call::CallPlan;

@@ -12,7 +12,7 @@ use Rattle.format.specs.Pace.{planOf, planned}
 use Rattle.format.specs.Player.{Played, play, belongs, as25, call, runAfter}
 use Rattle.format.specs.State.{moved}
 use Rattle.format.proofs.Checks.{refused-not-ok}
-use Rattle.agreement.proofs.Planned.{planned-is}
+use Rattle.play_laws.proofs.Planned.{planned-is}
 use Rattle.plan.specs.declared.call.CallPlan.{CallPlan}
 use Rattle.plan.specs.Told.{planTold}
 use Rattle.store.specs.Stored.{storedCall}
@@ -88,12 +88,17 @@ stepTold step = record { number = 0; count = step .count; complete = step .compl
 abbrev pub steppedOn : StreamPlayer → Step → StreamPlayer
 steppedOn state step = moved state (stepped (state .progress) step)
 
-pub step-told : (state : StreamPlayer) (file : List ℕ) (run : List WriteRecord) (step : Step) (zs : List WriteRecord) → step ≡ stepOf file (state .header) (state .cards) (state .progress) (length run) → step .taken ≡ true → zs ≡ stepStored file (state .header .version) step run → (stepTold step ≡ vsyncOf (call state file (length run))) × (steppedOn state step ≡ stateAfter state (call state file (length run))) × (zs ≡ runAfter run (call state file (length run)))
+pub step-told : (state : StreamPlayer) (file : List ℕ) (run : List WriteRecord) (step : Step) (zs : List WriteRecord)
+    → step ≡ stepOf file (state .header) (state .cards) (state .progress) (length run) → step .taken ≡ true → zs ≡ stepStored file (state .header .version) step run
+    → (stepTold step ≡ vsyncOf (call state file (length run))) × (steppedOn state step ≡ stateAfter state (call state file (length run))) × (zs ≡ runAfter run (call state file (length run)))
 step-told state file run step zs e taken wrote =
     let is = step-call state file (length run) step e taken in
     let kind = step-kind file (state .header) (state .cards) (state .progress) (length run) step e taken in
-    let c = currentOf file (state .header) (state .cards .count) (state .progress) in
-    (rw is (ap (λ (n : ℕ). record { number = 0; count = n; complete = step .complete }) (step-long file (state .header) (state .cards) c step (length run) kind)), rw is, rw is (wrote ∙ step-stored file (state .header) (state .cards) c step run kind))
+    let c = currentOf file (state .header) (state .cards .count) (state .progress) in (
+      rw is (ap (λ (n : ℕ). record { number = 0; count = n; complete = step .complete }) (step-long file (state .header) (state .cards) c step (length run) kind)),
+      rw is,
+      rw is (wrote ∙ step-stored file (state .header) (state .cards) c step run kind),
+    )
 
 -- AN EMPTY FRAME
 
@@ -103,7 +108,9 @@ emptyTold = record { number = 0; count = 0; complete = true }
 abbrev pub emptiedOn : StreamPlayer → EmptyStep → StreamPlayer
 emptiedOn state step = moved state (emptied (state .progress) step)
 
-pub empty-told : (state : StreamPlayer) (file : List ℕ) (run : List WriteRecord) (step : EmptyStep) → step ≡ emptyOf file (state .header) (state .cards .count) (state .progress) → step .taken ≡ true → (emptyTold ≡ vsyncOf (call state file (length run))) × (emptiedOn state step ≡ stateAfter state (call state file (length run))) × (run ≡ runAfter run (call state file (length run)))
+pub empty-told : (state : StreamPlayer) (file : List ℕ) (run : List WriteRecord) (step : EmptyStep) → step ≡ emptyOf file (state .header) (state .cards .count) (state .progress)
+    → step .taken ≡ true
+    → (emptyTold ≡ vsyncOf (call state file (length run))) × (emptiedOn state step ≡ stateAfter state (call state file (length run))) × (run ≡ runAfter run (call state file (length run)))
 empty-told state file run step e taken =
     let is = empty-call state file (length run) step e taken in
     (rw is, rw is, rw is)

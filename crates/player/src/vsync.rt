@@ -4,12 +4,10 @@ use format::StreamPlayer;
 use format::WriteRecord;
 use plan::plan_call;
 use quick_step::quick_step;
+use state::store_position;
 use store::store_call;
 use store_step::store_step;
-ghost use mathlib.Core.Path.{_≡_};
-ghost use lib.ListN.{length};
-ghost use Rattle.format.specs.Player.{call, runAfter};
-ghost use Rattle.player.specs.Vsync.{vsyncOf, stateAfter};
+ghost use Rattle.player.specs.Vsync.{Advanced};
 
 // What a call tells: refusal 25 or 0, how many records it stored, and whether the vsync is complete.
 #[repr(C)]
@@ -21,9 +19,7 @@ pub struct Vsync {
 
 // The call of any state: its plan is made, and then its records are stored.
 fn planned_vsync(state: &mut StreamPlayer, file: &[u8], run: &mut [WriteRecord]) -> Vsync
-    ensures { λ r. ⌜ (r ≡ vsyncOf (call (now (state .entry)) (now (file .entry)) (length (now (run .entry)))))
-        × (now (state .exit) ≡ stateAfter (now (state .entry)) (call (now (state .entry)) (now (file .entry)) (length (now (run .entry)))))
-        × (now (run .exit) ≡ runAfter (now (run .entry)) (call (now (state .entry)) (now (file .entry)) (length (now (run .entry))))) ⌝ }
+    ensures { λ r. ⌜ Advanced (now (state .entry)) (now (file .entry)) (now (run .entry)) r (now (state .exit)) (now (run .exit)) ⌝ }
 {
     let before = *state;
     let plan = plan_call(before, file, run.len());
@@ -36,22 +32,15 @@ fn planned_vsync(state: &mut StreamPlayer, file: &[u8], run: &mut [WriteRecord])
     }
 }
 
-// Any call that is not an empty frame's. One that takes nothing but WRITEs and FILLs changes a few numbers of the state.
+// Any call that is not an empty frame's. One that takes nothing but WRITEs and FILLs changes only the position.
 fn busy_vsync(state: &mut StreamPlayer, file: &[u8], run: &mut [WriteRecord]) -> Vsync
-    ensures { λ r. ⌜ (r ≡ vsyncOf (call (now (state .entry)) (now (file .entry)) (length (now (run .entry)))))
-        × (now (state .exit) ≡ stateAfter (now (state .entry)) (call (now (state .entry)) (now (file .entry)) (length (now (run .entry)))))
-        × (now (run .exit) ≡ runAfter (now (run .entry)) (call (now (state .entry)) (now (file .entry)) (length (now (run .entry))))) ⌝ }
+    ensures { λ r. ⌜ Advanced (now (state .entry)) (now (file .entry)) (now (run .entry)) r (now (state .exit)) (now (run .exit)) ⌝ }
 {
     let seen = *state;
     let step = quick_step(file, seen.header, seen.cards, seen.progress, run.len());
     if step.taken {
         store_step(run, file, seen.header.version, step);
-        state.progress.part = step.part;
-        state.progress.cursor = step.cursor;
-        state.progress.operation_index = step.operation_index;
-        state.progress.operation_count = step.operation_count;
-        state.progress.write_index = step.write_index;
-        state.progress.frame_index = step.frame_index;
+        store_position(state, step.to);
         return Vsync {
             number: 0,
             count: step.count,
@@ -65,9 +54,7 @@ fn busy_vsync(state: &mut StreamPlayer, file: &[u8], run: &mut [WriteRecord]) ->
 // `busy_vsync` is called at two places, the compiler keeps it out of line, and because its answer has a name, the answer of an
 // empty frame does not go through memory.
 pub fn advance_vsync(state: &mut StreamPlayer, file: &[u8], run: &mut [WriteRecord]) -> Vsync
-    ensures { λ r. ⌜ (r ≡ vsyncOf (call (now (state .entry)) (now (file .entry)) (length (now (run .entry)))))
-        × (now (state .exit) ≡ stateAfter (now (state .entry)) (call (now (state .entry)) (now (file .entry)) (length (now (run .entry)))))
-        × (now (run .exit) ≡ runAfter (now (run .entry)) (call (now (state .entry)) (now (file .entry)) (length (now (run .entry))))) ⌝ }
+    ensures { λ r. ⌜ Advanced (now (state .entry)) (now (file .entry)) (now (run .entry)) r (now (state .exit)) (now (run .exit)) ⌝ }
 {
     let seen = *state;
     let step = empty_step(file, seen.header, seen.cards.count, seen.progress);
@@ -76,10 +63,7 @@ pub fn advance_vsync(state: &mut StreamPlayer, file: &[u8], run: &mut [WriteReco
         return going;
     }
     if step.taken {
-        state.progress.cursor = step.cursor;
-        state.progress.operation_index = 0;
-        state.progress.operation_count = 0;
-        state.progress.frame_index = step.frame_index;
+        store_position(state, step.to);
         return Vsync {
             number: 0,
             count: 0,

@@ -34,7 +34,8 @@ pools-found version file directory zero id start found e i =
     rw (le-ltb i 0 (omega arith)) (ap (λ (all : List Payload × ℕ). getD (all .0) i noPool) (sym (ok-is e)))
 pools-found version file directory (suc count) id start found e i =
     let step = pool-step version file directory count id start found e in
-    ap (λ (all : List Payload × ℕ). getD (all .0) i noPool) (sym (step .is)) ∙ go i (step .others .0) (step .fine .here) (pools-found version file directory count (suc id) (start + poolAt file directory id .size) (step .others) (step .from))
+    ap (λ (all : List Payload × ℕ). getD (all .0) i noPool) (sym (step .is))
+    ∙ go i (step .others .0) (step .fine .here) (pools-found version file directory count (suc id) (start + poolAt file directory id .size) (step .others) (step .from))
   where
     go : (i : ℕ) (others : List Payload) → poolAt file directory id .offset ≡ start
         → ((j : ℕ) → getD others j noPool ≡ cond (ltb j count) (payloadOf file (poolAt file directory (suc id + j))) noPool)
@@ -51,7 +52,8 @@ pool-found file s id e =
     pools-found (header .version) file (header .«directory_offset») (header .«pool_count») 0 _ _ (accepted file s e .0 .pools) id
     ∙ rw zero-add (go (ltb id (header .«pool_count»)))
   where
-    go : (known : Bool) → cond known (payloadOf file (poolAt file (headerOf file .«directory_offset») id)) noPool ≡ payloadOf file (cond known (poolAt file (headerOf file .«directory_offset») id) (record { kind = 0; size = 0; offset = 0 }))
+    go : (known : Bool)
+        → cond known (payloadOf file (poolAt file (headerOf file .«directory_offset») id)) noPool ≡ payloadOf file (cond known (poolAt file (headerOf file .«directory_offset») id) (record { kind = 0; size = 0; offset = 0 }))
     go true = refl
     go false = refl
 

@@ -25,7 +25,9 @@ pools-step version file directory count id start pool e h =
     rw (e, left, add-one)
     (go at (poolWrong version file at id start (poolAt file directory id)) (ltb (length file) (start + poolAt file directory id .size)) _ (poolsFrom version file directory (count - suc id) (suc id) (start + poolAt file directory id .size)))
   where
-    go : (at : ℕ) (wrong past : Bool) (here : Payload) (rest : Checked (List Payload × ℕ)) → mapped (λ (found : List Payload × ℕ). found .1) (refuse 10 at wrong >> (refuse 11 at past >> (rest >>= λ found. ok (here ∷ found .0, found .1)))) ≡ ((refuse 10 at wrong >> refuse 11 at past) >> mapped (λ (found : List Payload × ℕ). found .1) rest)
+    go : (at : ℕ) (wrong past : Bool) (here : Payload) (rest : Checked (List Payload × ℕ))
+        → mapped (λ (found : List Payload × ℕ). found .1) (refuse 10 at wrong >> (refuse 11 at past >> (rest >>= λ found. ok (here ∷ found .0, found .1))))
+        ≡ ((refuse 10 at wrong >> refuse 11 at past) >> mapped (λ (found : List Payload × ℕ). found .1) rest)
     go at true past here rest = refl
     go at false true here rest = refl
     go at false false here (ok found) = refl

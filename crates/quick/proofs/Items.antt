@@ -1,218 +1,198 @@
 -- What a quick test passes is one step of the walk over items.
 use Prim.Native.Nat.{ℕ, zero, suc, _+_, _*_, _≤_, _<_}
-use mathlib.Core.Path.{_≡_, refl, _∙_}
+use mathlib.Core.Path.{_≡_, refl, sym, ap, _∙_}
 use mathlib.Core.Bool.{Bool, true, false, cond, not, _&&_, _||_, true≢false, false≢true}
 use mathlib.Core.List.{List}
-use native.Mathlib.Nat.{add-zero}
 use native.Mathlib.Omega.{arith}
-use borrow.Author.Tests.{ltb-true, ltb-false, leb-true, leb-false, eqb-true, le-ltb, lt-leb, ne-eqb}
+use borrow.Author.Tests.{ltb-true, ltb-false, leb-false, eqb-true, ne-eqb, not-true}
 use lib.Dec.{eqb, leb, ltb}
-use lib.ListN.{length, getD}
+use lib.ListN.{length}
 use Rattle.format.specs.declared.card.CardRequirement.{CardRequirement}
 use Rattle.targets.specs.declared.Target.{Target}
+use Rattle.format.specs.declared.operation.Operation.the-variants.{Write, Fill, Copy}
 use Rattle.format.specs.Bytes.{byte, be, part}
 use Rattle.format.specs.Checked.{ok}
-use Rattle.format.specs.Operation.{Setting, addressWidth, sizeOf, fieldsAt, writeRules, allowed, operationAt, recordAt, itemAt}
+use Rattle.format.specs.Operation.{Setting, addressWidth, sizeOf, allowed, itemAt}
 use Rattle.format.specs.Pool.{poolAt}
-use Rattle.format.specs.Target.{targetOf, bulkStart, kindFor}
+use Rattle.format.specs.Target.{targetOf, missing}
 use Rattle.format.specs.Writes.{targetNumber}
 use Rattle.format.proofs.Bytes.{byte-part, be-part}
-use Rattle.format.proofs.Checks.{and-true}
-use Rattle.format.proofs.Sizes.{extras, size-is, width-range}
+use Rattle.format.proofs.Sizes.{size-most, width-range}
+use Rattle.fields.specs.declared.decode.Decoded.{Decoded}
+use Rattle.fields.specs.Decoded.{decodedOperation, decodedRecord, decodedItem, operationOf}
+use Rattle.fields.proofs.Laws.{allowedBy, item-decoded}
 use Rattle.operation.specs.Walk.{stepped}
-use Rattle.limit_tables.specs.Limits.{writeEnd, bulkEnd, tabled, writeEnds, bulkStarts, bulkEnds, kindsBy}
-use Rattle.quick_rules.specs.Quick.{plainWrite, quickRecord, outOfBulk, wholeWaves, poolFits, quickWrite, quickFill, quickCopy, quickOperation}
-use Rattle.quick.specs.Run.{operationSize, hasSi22}
-use Rattle.quick.proofs.Passed.{write-passes, fill-passes, pool-right, copy-passes}
+use Rattle.limit_tables.specs.Limits.{limitsFor, limitTable, limitsAt}
+use Rattle.limit_tables.proofs.Tabled.{limits-at}
+use Rattle.quick_rules.specs.Quick.{outOfBulk, poolFits}
+use Rattle.quick_operations.specs.declared.Quick.{Quick}
+use Rattle.quick_operations.specs.Passes.{writePasses, fillPasses, copyPasses, itemPasses, recordPasses, none, quickOperation}
+use Rattle.quick.specs.Run.{recordTest, operationTest, hasSi22}
+use Rattle.quick.proofs.Passed.{write-there, write-passes, fill-passes, pool-right, copy-passes}
 use Rattle.quick.proofs.Runs.{Steps}
-use Rattle.limit_tables.proofs.Tabled.{tabled-at}
 
 -- what a file's operations go by
 abbrev pub setting : (version : ℕ) → List CardRequirement → (pools directory : ℕ) → List ℕ → Setting
-setting version cards pools directory file = record { version = version; cards = cards; pools = pools; poolOf = poolAt file directory }
+setting version cards pools directory file =
+    record { version = version; cards = cards; pools = pools; poolOf = poolAt file directory }
 
-target-at : (file : List ℕ) (width at opcode : ℕ) → targetNumber (fieldsAt file width at opcode) ≡ byte file (at + 1)
-unfolding fieldsAt
-target-at file width at zero = refl
-target-at file width at (suc zero) = refl
-target-at file width at (suc (suc n)) = refl
+-- a choice that is true
+chosen : (b c : Bool) → cond b false c ≡ true → (b ≡ false) × (c ≡ true)
+chosen true c h = absurd (false≢true h)
+chosen false c h = (refl, h)
 
--- an operation that is whole and allowed
-whole-step : (seen : Bool) (s : Setting) (file : List ℕ) (limit at opcode : ℕ) → eqb (s .version) 1 ≡ false → at + 16 ≤ limit → byte file at ≡ opcode → opcode ≤ 2 → sizeOf (addressWidth (s .version)) opcode ≤ 16 → allowed s at (fieldsAt file (addressWidth (s .version)) at opcode) ≡ ok tt → stepped seen s file limit at ≡ ok (at + sizeOf (addressWidth (s .version)) opcode, seen || eqb (byte file (at + 1)) 11)
-unfolding itemAt operationAt
-whole-step seen s file limit at opcode pooled room is known size fine =
-    rw (pooled, lt-leb limit at (omega arith), is, le-ltb 2 opcode known, le-ltb limit (at + sizeOf (addressWidth (s .version)) opcode) (omega arith), fine, target-at file (addressWidth (s .version)) at opcode)
+-- WHAT IS PASSED IS ALLOWED
 
--- RECORDS
-
--- a record that has a size has 5 bytes, lies before the limit and is a write to a core or PCM memory
-record-fits : (file : List ℕ) (limit at : ℕ) → eqb (quickRecord file limit at) 0 ≡ false → (quickRecord file limit at ≡ 5) × (at + 5 ≤ limit) × (plainWrite (byte file at) (be 3 file (at + 1)) ≡ true)
-unfolding quickRecord
-record-fits file limit at some = go (leb (at + 5) limit && plainWrite (byte file at) (be 3 file (at + 1))) refl some
-  where
-    go : (b : Bool) → (leb (at + 5) limit && plainWrite (byte file at) (be 3 file (at + 1))) ≡ b → eqb (cond b 5 0) 0 ≡ false → (_≡_ {A = ℕ} (cond b 5 0) 5) × (at + 5 ≤ limit) × (plainWrite (byte file at) (be 3 file (at + 1)) ≡ true)
-    go true e h =
-        let both = and-true (leb (at + 5) limit) _ e in
-        (refl, leb-true (at + 5) limit (both .0), both .1)
-    go false e h = absurd (true≢false h)
-
-pub record-whole : (file : List ℕ) (limit at : ℕ) → eqb (quickRecord file limit at) 0 ≡ false → at + quickRecord file limit at ≤ limit
-record-whole file limit at some =
-    let fits = record-fits file limit at some in
-    omega arith
-
--- such a write is allowed in every version, and its target is not 11
-plain-passes : (version : ℕ) (cards : List CardRequirement) (at target address : ℕ) → plainWrite target address ≡ true → (writeRules at (targetOf version cards target) address ≡ ok tt) × (target ≤ 2)
-unfolding plainWrite targetOf writeRules
-plain-passes version cards at target address e = core (ltb target 2) refl e
-  where
-    pcm : (b : Bool) → eqb target 2 ≡ b → ltb target 2 ≡ false → cond b (leb address 0xFFFFF) false ≡ true → (writeRules at (targetOf version cards target) address ≡ ok tt) × (target ≤ 2)
-    pcm false n more h = absurd (false≢true h)
-    pcm true two more h =
-        let is : target ≡ 2 = eqb-true target 2 two in
-        (rw (is, le-ltb 0xFFFFF address (leb-true address 0xFFFFF h)), omega arith)
-
-    core : (b : Bool) → ltb target 2 ≡ b → cond b (leb address 0x8FF) (cond (eqb target 2) (leb address 0xFFFFF) false) ≡ true → (writeRules at (targetOf version cards target) address ≡ ok tt) × (target ≤ 2)
-    core true less h = (rw (less, le-ltb 0x8FF address (leb-true address 0x8FF h)), omega (arith, ltb-true target 2 less))
-    core false more h = pcm (eqb target 2) refl more h
-
-pub record-step : (s : Setting) (file : List ℕ) (limit : ℕ) → eqb (s .version) 1 ≡ true → Steps (quickRecord file limit) (λ place. false) s file limit
-unfolding itemAt recordAt allowed
-record-step s file limit one seen at some =
-    let fits = record-fits file limit at some in
-    let plain = plain-passes (s .version) (s .cards) at (byte file at) (be 3 file (at + 1)) (fits .2) in
-    rw (fits .0, one, le-ltb limit (at + 5) (fits .1), plain .0, ne-eqb (byte file at) 11 (λ e. omega (arith, plain .1)))
-
--- OPERATIONS
-
--- an operation has at most 16 bytes
-small : (b : Bool) (x y : ℕ) → x ≤ 16 → y ≤ 16 → cond b x y ≤ 16
-small true x y h k = h
-small false x y h k = k
-
-copy-small : (width : ℕ) (a b c d : Bool) → width ≤ 4 → cond a 0 (cond b 0 (cond c 0 (cond d (12 + width) 0))) ≤ 16
-copy-small width a b c d w =
-    let none : 0 ≤ 16 = omega arith in
-    small a 0 _ none (small b 0 _ none (small c 0 _ none (small d (12 + width) 0 (omega arith) none)))
-
-pub operation-small : (width : ℕ) (file : List ℕ) (pools directory : ℕ) (limits starts ends kinds : List ℕ) (end at : ℕ) → width ≤ 4 → operationSize width file pools directory limits starts ends kinds end at ≤ 16
-unfolding quickOperation quickWrite quickFill quickCopy
-operation-small width file pools directory limits starts ends kinds end at w =
-    let none : 0 ≤ 16 = omega arith in
-    let bytes = part file at 16 in
-    let target = byte bytes 1 in
-    let id = be 2 bytes (2 + width) in
-    small (ltb end (at + 16)) 0 _ none
-    (small (leb 12 target) 0 _ none
-    (small (eqb (byte bytes 0) 0) _ _ (small (ltb (be width bytes 2) (getD limits target 0)) (3 + width) 0 (omega arith) none)
-    (small (eqb (byte bytes 0) 1) _ _ (small (outOfBulk (be width bytes 2) (be 4 bytes (2 + width)) (getD starts target 0) (getD ends target 0)) 0 (7 + width) none (omega arith))
-    (small (eqb (byte bytes 0) 2) _ 0 (copy-small width (outOfBulk (be width bytes 2) (be 4 bytes (8 + width)) (getD starts target 0) (getD ends target 0)) (leb pools id) (ltb (length file) (directory + id * 16 + 16)) (poolFits (part file (directory + id * 16) 16) (getD kinds target 0) (be width bytes 2) (be 4 bytes (4 + width)) (be 4 bytes (8 + width))) w) none))))
-
--- a choice that is not 0
-chosen : (b : Bool) (n : ℕ) → eqb (cond b 0 n) 0 ≡ false → (b ≡ false) × (eqb n 0 ≡ false)
-chosen true n h = absurd (true≢false h)
-chosen false n h = (refl, h)
-
-taken : (b : Bool) (n : ℕ) → eqb (cond b n 0) 0 ≡ false → b ≡ true
-taken true n h = refl
-taken false n h = absurd (true≢false h)
-
-copied : (a b c d : Bool) (n : ℕ) → eqb (cond a 0 (cond b 0 (cond c 0 (cond d n 0)))) 0 ≡ false → (a ≡ false) × (b ≡ false) × (c ≡ false) × (d ≡ true)
-copied a b c d n h =
-    let first = chosen a _ h in
-    let second = chosen b _ (first .1) in
-    let third = chosen c _ (second .1) in
-    (first .0, second .0, third .0, taken d n (third .1))
-
-module _ (version : ℕ) (cards : List CardRequirement) (pools directory : ℕ) (file : List ℕ) (limit at : ℕ) (pooled : eqb version 1 ≡ false) (room : at + 16 ≤ limit) (known : byte file (at + 1) < 12) where
-  abbrev width : ℕ
-  width = addressWidth version
-
+module _ (version : ℕ) (cards : List CardRequirement) (pools directory : ℕ) (file : List ℕ) (at : ℕ) (item : Decoded) where
   abbrev s : Setting
   s = setting version cards pools directory file
 
-  abbrev bytes : List ℕ
-  bytes = part file at 16
-
   abbrev target : Target
-  target = targetOf version cards (byte file (at + 1))
+  target = targetOf version cards (item .target)
 
-  -- its size is that of its opcode
-  step-by : (seen : Bool) (opcode n : ℕ) → byte file at ≡ opcode → opcode ≤ 2 → n ≡ width + getD extras opcode 0 → n ≤ 16 → allowed s at (fieldsAt file width at opcode) ≡ ok tt → stepped seen s file limit at ≡ ok (at + n, seen || hasSi22 file at)
-  step-by seen opcode n is most size less fine =
-      let range = width-range version in
-      let same : sizeOf width opcode ≡ n = omega (arith, size-is width opcode (range .0) (range .1) most) in
-      rw same at (whole-step seen s file limit at opcode pooled room is most (omega arith) fine)
+  copy-allowed : item .opcode ≡ 2 → copyPasses file pools directory (limitsFor target) item ≡ true → allowed s at (operationOf item) ≡ ok tt
+  unfolding copyPasses poolFits operationOf allowed
+  copy-allowed is e =
+      let entry = directory + item .pool * 16 in
+      let first = chosen (outOfBulk (item .address) (item .length) _ _) _ e in
+      let second = chosen (leb pools (item .pool)) _ (first .1) in
+      let third = chosen (ltb (length file) (entry + 16)) _ (second .1) in
+      let fits = rw (be-part 4 file entry 16 4 (omega arith), byte-part file entry 16 2 (omega arith)) at (third .1) in
+      rw is
+      (copy-passes at version pools target (item .address) (item .pool) (poolAt file directory (item .pool)) (item .source) (item .length) (first .0) (second .0)
+      (pool-right target (poolAt file directory (item .pool)) (item .address) (item .source) (item .length) fits))
 
-  write-step : (seen : Bool) → byte file at ≡ 0 → (q : ℕ) → q ≡ quickWrite width bytes (writeEnd target) → eqb q 0 ≡ false → stepped seen s file limit at ≡ ok (at + q, seen || hasSi22 file at)
-  unfolding quickWrite allowed fieldsAt
-  write-step seen is q e some =
-      let range = width-range version in
-      let fits : ltb (be width bytes 2) (writeEnd target) ≡ true = taken _ (3 + width) (rw e at some) in
-      let n : q ≡ 3 + width = e ∙ rw fits in
-      step-by seen 0 q is (omega arith) (omega arith) (omega arith) (write-passes at target (be width file (at + 2)) (rw (be-part width file at 16 2 (omega arith)) at fits))
+  -- an item that is passed has an opcode of the sheet, and the rules 15 to 19 allow it
+  abbrev Allowed : Type 0
+  Allowed = (item .opcode ≤ 2) × (allowed s at (operationOf item) ≡ ok tt)
 
-  fill-step : (seen : Bool) → byte file at ≡ 1 → (q : ℕ) → q ≡ quickFill width bytes (bulkStart target) (bulkEnd target) → eqb q 0 ≡ false → stepped seen s file limit at ≡ ok (at + q, seen || hasSi22 file at)
-  unfolding quickFill allowed fieldsAt
-  fill-step seen is q e some =
-      let range = width-range version in
-      let fits = chosen (outOfBulk (be width bytes 2) (be 4 bytes (2 + width)) (bulkStart target) (bulkEnd target)) (7 + width) (rw e at some) .0 in
-      let n : q ≡ 7 + width = e ∙ rw fits in
-      let place : at + (2 + width) ≡ at + 2 + width = omega arith in
-      step-by seen 1 q is (omega arith) (omega arith) (omega arith) (fill-passes at target (be width file (at + 2)) (be 4 file (at + 2 + width)) (rw (be-part width file at 16 2 (omega arith), be-part 4 file at 16 (2 + width) (omega arith), place) at fits))
-
-  copy-step : (seen : Bool) → byte file at ≡ 2 → (q : ℕ) → q ≡ quickCopy width file pools directory bytes (bulkStart target) (bulkEnd target) (kindFor target) → eqb q 0 ≡ false → stepped seen s file limit at ≡ ok (at + q, seen || hasSi22 file at)
-  unfolding quickCopy poolFits allowed fieldsAt
-  copy-step seen is q e some =
-      let range = width-range version in
-      let address : be width bytes 2 ≡ be width file (at + 2) = be-part width file at 16 2 (omega arith) in
-      let id : be 2 bytes (2 + width) ≡ be 2 file (at + 2 + width) = be-part 2 file at 16 (2 + width) (omega arith) ∙ placed 2 2 in
-      let source : be 4 bytes (4 + width) ≡ be 4 file (at + 4 + width) = be-part 4 file at 16 (4 + width) (omega arith) ∙ placed 4 4 in
-      let size : be 4 bytes (8 + width) ≡ be 4 file (at + 8 + width) = be-part 4 file at 16 (8 + width) (omega arith) ∙ placed 4 8 in
-      let all = copied (outOfBulk (be width bytes 2) (be 4 bytes (8 + width)) (bulkStart target) (bulkEnd target)) (leb pools (be 2 bytes (2 + width))) (ltb (length file) (directory + be 2 bytes (2 + width) * 16 + 16)) fitting (12 + width) (rw e at some) in
-      let n : q ≡ 12 + width = e ∙ rw (all .0, all .1, all .2, all .3) in
-      let entry = directory + be 2 file (at + 2 + width) * 16 in
-      step-by seen 2 q is (omega arith) (omega arith) (omega arith)
-      (copy-passes at version pools target (be width file (at + 2)) (be 2 file (at + 2 + width)) (poolAt file directory (be 2 file (at + 2 + width))) (be 4 file (at + 4 + width)) (be 4 file (at + 8 + width)) (rw (address, size) at (all .0)) (rw id at (all .1))
-      (pool-right target (poolAt file directory (be 2 file (at + 2 + width))) (be width file (at + 2)) (be 4 file (at + 4 + width)) (be 4 file (at + 8 + width)) (rw (id, address, source, size, be-part 4 file entry 16 4 (omega arith), byte-part file entry 16 2 (omega arith)) at (all .3))))
+  item-allowed : itemPasses file pools directory (limitsFor target) item ≡ true → Allowed
+  unfolding itemPasses writePasses fillPasses operationOf allowed
+  item-allowed = write (eqb (item .opcode) 0) refl
     where
-      fitting : Bool
-      fitting = not (ltb (be 4 (part file (directory + be 2 bytes (2 + width) * 16) 16) 4) (be 4 bytes (4 + width) + be 4 bytes (8 + width))) && eqb (byte (part file (directory + be 2 bytes (2 + width) * 16) 16) 2) (kindFor target) && (not (eqb (kindFor target) 1) || wholeWaves (be width bytes 2) (be 4 bytes (4 + width)) (be 4 bytes (8 + width)))
+      copy : (b : Bool) → eqb (item .opcode) 2 ≡ b → cond b (copyPasses file pools directory (limitsFor target) item) false ≡ true → Allowed
+      copy false e h = absurd (false≢true h)
+      copy true e h =
+          let is : item .opcode ≡ 2 = eqb-true _ _ e in
+          (omega arith, copy-allowed is h)
 
-      placed : (w k : ℕ) → be w file (at + (k + width)) ≡ be w file (at + k + width)
-      placed w k = let same : at + (k + width) ≡ at + k + width = omega arith in rw same
+      fill : (b : Bool) → eqb (item .opcode) 1 ≡ b → cond b (fillPasses (limitsFor target) item) (cond (eqb (item .opcode) 2) (copyPasses file pools directory (limitsFor target) item) false) ≡ true → Allowed
+      fill false e h = copy (eqb (item .opcode) 2) refl h
+      fill true e h =
+          let is : item .opcode ≡ 1 = eqb-true _ _ e in
+          (omega arith, rw is (fill-passes at target (item .address) (item .length) (not-true _ h)))
 
-  -- by the opcode
-  opcode-step : (seen : Bool) (q : ℕ) (write fill copy : Bool) → eqb (byte file at) 0 ≡ write → eqb (byte file at) 1 ≡ fill → eqb (byte file at) 2 ≡ copy → q ≡ cond write (quickWrite width bytes (writeEnd target)) (cond fill (quickFill width bytes (bulkStart target) (bulkEnd target)) (cond copy (quickCopy width file pools directory bytes (bulkStart target) (bulkEnd target) (kindFor target)) 0)) → eqb q 0 ≡ false → stepped seen s file limit at ≡ ok (at + q, seen || hasSi22 file at)
-  opcode-step seen q true fill copy w f c e some = write-step seen (eqb-true _ _ w) q e some
-  opcode-step seen q false true copy w f c e some = fill-step seen (eqb-true _ _ f) q e some
-  opcode-step seen q false false true w f c e some = copy-step seen (eqb-true _ _ c) q e some
-  opcode-step seen q false false false w f c e some = absurd (true≢false (rw e at some))
+      write : (b : Bool) → eqb (item .opcode) 0 ≡ b
+          → cond b (writePasses (limitsFor target) item) (cond (eqb (item .opcode) 1) (fillPasses (limitsFor target) item) (cond (eqb (item .opcode) 2) (copyPasses file pools directory (limitsFor target) item) false)) ≡ true
+          → Allowed
+      write false e h = fill (eqb (item .opcode) 1) refl h
+      write true e h =
+          let is : item .opcode ≡ 0 = eqb-true _ _ e in
+          (omega arith, rw is (write-passes at target (item .address) h))
 
--- an operation that a quick test passes, with the limits of its file
-quick-step : (version : ℕ) (cards : List CardRequirement) (pools directory : ℕ) (file : List ℕ) (limit at : ℕ) → eqb version 1 ≡ false → at + 16 ≤ limit → (seen : Bool) (q : ℕ) → q ≡ quickOperation (addressWidth version) file pools directory (writeEnds version cards) (bulkStarts version cards) (bulkEnds version cards) (kindsBy version cards) (part file at 16) → eqb q 0 ≡ false → stepped seen (setting version cards pools directory file) file limit at ≡ ok (at + q, seen || hasSi22 file at)
-unfolding quickOperation
-quick-step version cards pools directory file limit at pooled room seen q e some = go (leb 12 target) refl e
+-- ONE STEP
+
+-- the target of an operation is the one that the reader gave
+target-kept : (item : Decoded) → targetNumber (operationOf item) ≡ item .target
+unfolding operationOf
+target-kept item = go (eqb (item .opcode) 0) (eqb (item .opcode) 1)
   where
-    target : ℕ
-    target = byte file (at + 1)
+    go : (write fill : Bool)
+        → targetNumber (cond write (Write (item .target) (item .address) (item .value))
+        (cond fill (Fill (item .target) (item .address) (item .length) (item .value)) (Copy (item .target) (item .address) (item .pool) (item .source) (item .length))))
+        ≡ item .target
+    go true fill = refl
+    go false true = refl
+    go false false = refl
 
-    first : byte (part file at 16) 0 ≡ byte file at
-    first = rw add-zero at (byte-part file at 16 0 (omega arith))
+module _ (version : ℕ) (cards : List CardRequirement) (pools directory : ℕ) (file : List ℕ) (limit last at : ℕ) (room : last + 16 ≤ limit) (near : at ≤ last) where
+  -- an item of the version that is passed by the limits of its target
+  item-step : (seen : Bool) (item : Decoded) → item ≡ decodedItem version (part file at 16) → item .size ≤ 16 → item .target < 12
+      → itemPasses file pools directory (limitsAt (limitTable version cards) (item .target)) item ≡ true
+      → stepped seen (setting version cards pools directory file) file limit at ≡ ok (at + item .size, seen || eqb (item .target) 11)
+  item-step seen item e small below passed =
+      let fine = item-allowed version cards pools directory file at item (rw (limits-at version cards (item .target) below) at passed) in
+      let step = item-decoded (setting version cards pools directory file) file limit at (rw (← e) (fine .0)) (rw (← e) (omega arith)) in
+      rw (step, ← e, fine .1, target-kept item)
 
-    second : byte (part file at 16) 1 ≡ target
-    second = byte-part file at 16 1 (omega arith)
+-- in version 1 no target is 11
+no-si22 : (version : ℕ) (cards : List CardRequirement) (number : ℕ) → eqb version 1 ≡ true → missing (targetOf version cards number) ≡ false → eqb number 11 ≡ false
+unfolding targetOf
+no-si22 version cards number one there = ne-eqb number 11 (λ e. true≢false (rw (e, eqb-true version 1 one) at there))
 
-    by : (f : Target → ℕ) → target < 12 → getD (tabled (λ n. f (targetOf version cards n)) 12) target 0 ≡ f (targetOf version cards target)
-    by f below = tabled-at (λ n. f (targetOf version cards n)) 12 target below
+-- an operation has at most 16 bytes
+small : (b : Bool) (size : ℕ) → (b ≡ false → size ≤ 16) → cond b 0 size ≤ 16
+small true size h = omega arith
+small false size h = h refl
 
-    go : (past : Bool) → leb 12 target ≡ past → q ≡ quickOperation (addressWidth version) file pools directory (writeEnds version cards) (bulkStarts version cards) (bulkEnds version cards) (kindsBy version cards) (part file at 16) → stepped seen (setting version cards pools directory file) file limit at ≡ ok (at + q, seen || hasSi22 file at)
-    go true p e = absurd (true≢false (rw (e, second, p) at some))
-    go false p e =
-        let below : target < 12 = leb-false 12 target p in
-        opcode-step version cards pools directory file limit at pooled room below seen q (eqb (byte file at) 0) (eqb (byte file at) 1) (eqb (byte file at) 2) refl refl refl (rw (second, first, p, by writeEnd below, by bulkStart below, by bulkEnd below, by kindFor below) at e) some
+operation-small : (width : ℕ) (bytes : List ℕ) → 3 ≤ width → width ≤ 4 → decodedOperation width bytes .size ≤ 16
+unfolding decodedOperation
+operation-small width bytes low high =
+    small (ltb 2 (byte bytes 0)) _ (λ e. size-most width (byte bytes 0) low high (ltb-false 2 (byte bytes 0) e))
 
-pub operation-step : (version : ℕ) (cards : List CardRequirement) (pools directory : ℕ) (file : List ℕ) (limit end : ℕ) → eqb version 1 ≡ false → end ≤ limit → Steps (operationSize (addressWidth version) file pools directory (writeEnds version cards) (bulkStarts version cards) (bulkEnds version cards) (kindsBy version cards) end) (hasSi22 file) (setting version cards pools directory file) file limit
-operation-step version cards pools directory file limit end pooled most seen at some =
-    let here = chosen (ltb end (at + 16)) _ some in
-    rw (here .0) (quick-step version cards pools directory file limit at pooled (omega (arith, ltb-false end (at + 16) (here .0))) seen _ refl (here .1))
+pub quick-small : (width : ℕ) (file : List ℕ) (pools directory : ℕ) (table : List (List ℕ)) (bytes : List ℕ) → 3 ≤ width → width ≤ 4 → quickOperation width file pools directory table bytes .size ≤ 16
+unfolding quickOperation
+quick-small width file pools directory table bytes low high = go (leb 12 (item .target)) (ltb 2 (item .opcode))
+  where
+    item : Decoded
+    item = decodedOperation width bytes
+
+    go : (past unknown : Bool) → _≤_ (cond past none (cond unknown none (record { passed = itemPasses file pools directory (limitsAt table (item .target)) item; size = item .size })) .size) 16
+    go true unknown = omega arith
+    go false true = omega arith
+    go false false = operation-small width bytes low high
+
+module _ (version : ℕ) (cards : List CardRequirement) (pools directory : ℕ) (file : List ℕ) (limit last : ℕ) (room : last + 16 ≤ limit) where
+  abbrev table : List (List ℕ)
+  table = limitTable version cards
+
+  pub record-steps : eqb version 1 ≡ true → Steps (recordTest file table last) (λ place. false) (setting version cards pools directory file) file limit
+  unfolding recordPasses
+  record-steps one seen at passed = go (ltb last at) refl passed
+    where
+      item : Decoded
+      item = decodedRecord (part file at 16)
+
+      said : Bool → Quick
+      said past = cond past none (record { passed = recordPasses table item; size = item .size })
+
+      is : item ≡ decodedItem version (part file at 16)
+      is = unfold decodedItem in rw one
+
+      go : (past : Bool) → ltb last at ≡ past → said past .passed ≡ true → stepped seen (setting version cards pools directory file) file limit at ≡ ok (at + said past .size, seen || false)
+      go true e h = absurd (false≢true h)
+      go false e h =
+          let some = chosen (leb 12 (item .target)) _ h in
+          let below : item .target < 12 = leb-false 12 _ (some .0) in
+          let fits = rw (limits-at version cards (item .target) below) at (some .1) in
+          let unmarked = no-si22 version cards (item .target) one (write-there (targetOf version cards (item .target)) (item .address) (unfold writePasses in fits) .0) in
+          let five : item .size ≤ 16 = unfold decodedRecord in omega arith in
+          rw (← unmarked)
+          (item-step version cards pools directory file limit last at room (ltb-false last at e) seen item is five below (unfold itemPasses decodedRecord in some .1))
+
+  pub operation-steps : eqb version 1 ≡ false → Steps (operationTest (addressWidth version) file pools directory table last) (hasSi22 file) (setting version cards pools directory file) file limit
+  unfolding quickOperation
+  operation-steps pooled seen at passed = go (ltb last at) (leb 12 (item .target)) (ltb 2 (item .opcode)) refl refl refl passed
+    where
+      item : Decoded
+      item = decodedOperation (addressWidth version) (part file at 16)
+
+      said : (past foreign unknown : Bool) → Quick
+      said past foreign unknown =
+          cond past none (cond foreign none (cond unknown none (record { passed = itemPasses file pools directory (limitsAt table (item .target)) item; size = item .size })))
+
+      is : item ≡ decodedItem version (part file at 16)
+      is = unfold decodedItem in rw pooled
+
+      marked : eqb (item .target) 11 ≡ hasSi22 file at
+      marked = unfold decodedOperation in refl
+
+      go : (past foreign unknown : Bool) → ltb last at ≡ past → leb 12 (item .target) ≡ foreign → ltb 2 (item .opcode) ≡ unknown → said past foreign unknown .passed ≡ true
+          → stepped seen (setting version cards pools directory file) file limit at ≡ ok (at + said past foreign unknown .size, seen || hasSi22 file at)
+      go true foreign unknown e f u h = absurd (false≢true h)
+      go false true unknown e f u h = absurd (false≢true h)
+      go false false true e f u h = absurd (false≢true h)
+      go false false false e f u h =
+          let range = width-range version in
+          rw (← marked)
+          (item-step version cards pools directory file limit last at room (ltb-false last at e) seen item is (operation-small (addressWidth version) (part file at 16) (range .0) (range .1)) (leb-false 12 _ f) h)

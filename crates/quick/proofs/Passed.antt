@@ -15,7 +15,7 @@ use Rattle.limit_tables.specs.Limits.{writeEnd, bulkEnd}
 use Rattle.quick_rules.specs.Quick.{outOfBulk, wholeWaves}
 
 -- an address before the end: the target is there, and its limit is not passed
-write-there : (target : Target) (address : ℕ) → ltb address (writeEnd target) ≡ true → (missing target ≡ false) × (ltb (writeLimit target) address ≡ false)
+pub write-there : (target : Target) (address : ℕ) → ltb address (writeEnd target) ≡ true → (missing target ≡ false) × (ltb (writeLimit target) address ≡ false)
 unfolding writeEnd
 write-there target address e = go (missing target) refl
   where
@@ -54,7 +54,9 @@ fill-passes at target address size e =
     rw (there .0, there .1)
 
 -- the pool of a COPY fits its target
-pub pool-right : (target : Target) (pool : Pool) (address source size : ℕ) → (not (ltb (pool .size) (source + size)) && eqb (pool .kind) (kindFor target) && (not (eqb (kindFor target) 1) || wholeWaves address source size)) ≡ true → copyWrong target pool address source size ≡ false
+pub pool-right : (target : Target) (pool : Pool) (address source size : ℕ)
+    → (not (ltb (pool .size) (source + size)) && eqb (pool .kind) (kindFor target) && (not (eqb (kindFor target) 1) || wholeWaves address source size)) ≡ true
+    → copyWrong target pool address source size ≡ false
 unfolding copyWrong wholeWaves
 pool-right target pool address source size e =
     let all = and-true (not (ltb (pool .size) (source + size)) && eqb (pool .kind) (kindFor target)) _ e in
@@ -66,7 +68,8 @@ pool-right target pool address source size e =
     go true whole h = rw h
     go false whole h = refl
 
-pub copy-passes : (at version pools : ℕ) (target : Target) (address id : ℕ) (pool : Pool) (source size : ℕ) → outOfBulk address size (bulkStart target) (bulkEnd target) ≡ false → leb pools id ≡ false → copyWrong target pool address source size ≡ false → copyRules at version pools target address id pool source size ≡ ok tt
+pub copy-passes : (at version pools : ℕ) (target : Target) (address id : ℕ) (pool : Pool) (source size : ℕ) → outOfBulk address size (bulkStart target) (bulkEnd target) ≡ false
+    → leb pools id ≡ false → copyWrong target pool address source size ≡ false → copyRules at version pools target address id pool source size ≡ ok tt
 unfolding copyRules
 copy-passes at version pools target address id pool source size e known right =
     let there = bulk-there target address size e in

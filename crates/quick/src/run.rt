@@ -1,15 +1,18 @@
 // So many items in a row, as far as each is passed.
-use big_endian::byte_at;
+use big_endian::smaller;
 use big_endian::window;
-use limit_tables::TARGETS;
+use fields::address_width;
+use fields::decode_record;
+use fields::target_in;
+use format::OPERATION_MOST;
+use limit_tables::LimitTable;
 use quick_operations::quick_operation;
-use quick_rules::quick_record;
-use widths::address_width;
+use quick_operations::quick_record;
 ghost use mathlib.Core.Path.{_≡_};
-ghost use mathlib.Core.Bool.{_||_};
-ghost use Prim.Native.Nat.{_≤_, min};
+ghost use mathlib.Core.Bool.{false, _||_};
+ghost use Prim.Native.Nat.{_+_, _≤_};
 ghost use lib.ListN.{length};
-ghost use Rattle.quick.specs.Run.{recordsRun, operationsRun, quickRun};
+ghost use Rattle.quick.specs.Run.{recordsRun, operationsFrom, quickRun};
 
 // Where a run of items stops, how many items are left there, and whether one before has target 11.
 pub struct QuickRun {
@@ -28,32 +31,33 @@ pub fn either(a: bool, b: bool) -> bool
     b
 }
 
-fn smaller(a: usize, b: usize) -> usize
-    ensures { λ r. ⌜ r ≡ min a b ⌝ }
-{
-    if a < b {
-        return a;
-    }
-    b
-}
-
-// The records of version 1.
-fn records_run(file: &[u8], limit: usize, count: u32, start: usize) -> QuickRun
-    ensures { λ r. ⌜ r ≡ recordsRun (now (file .entry)) limit count start ⌝ }
+// The records of version 1 that stand at places up to `last`, where the bytes are that hold every item. No record that is passed has
+// target 11.
+fn records_run(file: &[u8], table: &LimitTable, last: usize, count: u32, start: usize) -> QuickRun
+    requires { ⌜ last + 16 ≤ length (now file) ⌝ }
+    ensures { λ r. ⌜ r ≡ recordsRun (now (file .entry)) (now (table .entry)) last count start ⌝ }
 {
     let mut at = start;
     let mut left = count;
     while 0 < left {
-        let size = quick_record(file, limit, at);
-        if size == 0 {
+        if last < at {
             return QuickRun {
                 at,
                 left,
                 si22: false,
             };
         }
-        at += size;
-        left -= 1;
+        let item = decode_record(window(file, at));
+        if quick_record(table, item) {
+            at += item.size;
+            left -= 1;
+        } else {
+            return QuickRun {
+                at,
+                left,
+                si22: false,
+            };
+        }
     }
     QuickRun {
         at,
@@ -62,84 +66,72 @@ fn records_run(file: &[u8], limit: usize, count: u32, start: usize) -> QuickRun
     }
 }
 
-// The operations of a pooled file. Each is asked for 16 bytes before the end, which hold the longest one.
+// The operations of a pooled file that stand at places up to `last`.
 fn operations_run(
     file: &[u8],
     width: usize,
     pools: u32,
     directory: u32,
-    limits: &[u32; TARGETS],
-    starts: &[u32; TARGETS],
-    ends: &[u64; TARGETS],
-    kinds: &[u8; TARGETS],
-    end: usize,
+    table: &LimitTable,
+    last: usize,
     count: u32,
     start: usize,
 ) -> QuickRun
-    requires { ⌜ (3 ≤ width) × (width ≤ 4) × (end ≤ length (now file)) ⌝ }
-    ensures { λ r. ⌜ r ≡ operationsRun width (now (file .entry)) pools directory (now (limits .entry)) (now (starts .entry)) (now (ends .entry)) (now (kinds .entry)) end count start ⌝ }
+    requires { ⌜ (3 ≤ width) × (width ≤ 4) × (last + 16 ≤ length (now file)) ⌝ }
+    ensures { λ r. ⌜ r ≡ operationsFrom width (now (file .entry)) pools directory (now (table .entry)) last count start false ⌝ }
 {
     let mut at = start;
     let mut left = count;
     let mut si22 = false;
     while 0 < left {
-        if end < 16 {
-            return QuickRun { at, left, si22 };
-        }
-        if end - 16 < at {
+        if last < at {
             return QuickRun { at, left, si22 };
         }
         let bytes = window(file, at);
-        let size = quick_operation(
-            file,
-            bytes,
-            width,
-            pools,
-            directory,
-            limits,
-            starts,
-            ends,
-            kinds,
-        );
-        if size == 0 {
+        let quick = quick_operation(file, bytes, width, pools, directory, table);
+        if quick.passed {
+            si22 = either(si22, target_in(bytes) == 11);
+            at += quick.size;
+            left -= 1;
+        } else {
             return QuickRun { at, left, si22 };
         }
-        si22 = either(si22, byte_at(bytes, 1) == 11);
-        at += size;
-        left -= 1;
     }
     QuickRun { at, left: 0, si22 }
 }
 
-// So many items of a file from a place, up to a limit.
+// So many items of a file from a place, up to a limit. What lies behind the last place with 16 bytes is not passed.
 pub fn quick_run(
     file: &[u8],
     version: u8,
     pools: u32,
     directory: u32,
-    limits: &[u32; TARGETS],
-    starts: &[u32; TARGETS],
-    ends: &[u64; TARGETS],
-    kinds: &[u8; TARGETS],
+    table: &LimitTable,
     limit: usize,
     count: u32,
     start: usize,
 ) -> QuickRun
-    ensures { λ r. ⌜ r ≡ quickRun version (now (file .entry)) pools directory (now (limits .entry)) (now (starts .entry)) (now (ends .entry)) (now (kinds .entry)) limit count start ⌝ }
+    ensures { λ r. ⌜ r ≡ quickRun version (now (file .entry)) pools directory (now (table .entry)) limit count start ⌝ }
 {
+    let end = smaller(limit, file.len());
+    if end < OPERATION_MOST {
+        return QuickRun {
+            at: start,
+            left: count,
+            si22: false,
+        };
+    }
+    let last = end - OPERATION_MOST;
     if version == 1 {
-        return records_run(file, limit, count, start);
+        return records_run(file, table, last, count, start);
     }
     operations_run(
         file,
         address_width(version),
         pools,
         directory,
-        limits,
-        starts,
-        ends,
-        kinds,
-        smaller(limit, file.len()),
+        table,
+        last,
         count,
         start,
     )

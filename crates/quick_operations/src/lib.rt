@@ -1,36 +1,60 @@
-// An operation of a pooled file, in a part of 16 bytes that holds all of it: its size if it is allowed, else 0.
-use big_endian::byte_at;
-use big_endian::read_u16;
-use big_endian::read_u32;
+// The quick tests of a record and of an operation: compared with the limits of its target. They only say yes.
 use big_endian::window;
+use fields::Decoded;
+use fields::address_in;
+use fields::length_in;
+use fields::opcode_in;
+use fields::operation_size;
+use fields::pool_in;
+use fields::source_in;
+use fields::target_in;
+use format::ENTRY_SIZE;
+use limit_tables::LimitTable;
 use limit_tables::TARGETS;
-use quick_rules::out_of_bulk;
+use limit_tables::TargetLimits;
+use limit_tables::limits_at;
+use quick_rules::out_of_range;
 use quick_rules::pool_fits;
-use widths::read_address;
 ghost use mathlib.Core.Path.{_≡_};
 ghost use Prim.Native.Nat.{_≤_};
-ghost use Rattle.quick_rules.specs.Quick.{quickWrite, quickFill, quickCopy, quickOperation};
+ghost use Rattle.fields.specs.Decoded.{decodedOperation};
+ghost use Rattle.quick_operations.specs.Passes.{writePasses, fillPasses, copyPasses, recordPasses, quickOperation};
 
-fn quick_write(bytes: &[u8], width: usize, end: u32) -> usize
-    requires { ⌜ (3 ≤ width) × (width ≤ 4) ⌝ }
-    ensures { λ r. ⌜ r ≡ quickWrite width (now (bytes .entry)) end ⌝ }
-{
-    if read_address(bytes, width, 2) < end {
-        return 3 + width;
-    }
-    0
+// Whether an operation is passed, and its size. Both are there, so that the place behind it waits for no comparison.
+pub struct Quick {
+    pub passed: bool,
+    pub size: usize,
 }
 
-fn quick_fill(bytes: &[u8], width: usize, start: u32, end: u64) -> usize
-    requires { ⌜ (3 ≤ width) × (width ≤ 4) ⌝ }
-    ensures { λ r. ⌜ r ≡ quickFill width (now (bytes .entry)) start end ⌝ }
+// Whether a record is passed.
+pub fn quick_record(table: &LimitTable, item: Decoded) -> bool
+    ensures { λ r. ⌜ r ≡ recordPasses (now (table .entry)) item ⌝ }
 {
-    let address = read_address(bytes, width, 2);
-    let length = read_u32(bytes, 2 + width);
-    if out_of_bulk(address, length, start, end) {
-        return 0;
+    let target = item.target as usize;
+    if TARGETS <= target {
+        return false;
     }
-    7 + width
+    let limits = limits_at(table, target);
+    (item.address as u64) < limits.write_end
+}
+
+fn quick_write(bytes: &[u8], width: usize, limits: TargetLimits) -> bool
+    requires { ⌜ (3 ≤ width) × (width ≤ 4) ⌝ }
+    ensures { λ r. ⌜ r ≡ writePasses limits (decodedOperation width (now (bytes .entry))) ⌝ }
+{
+    (address_in(bytes, width) as u64) < limits.write_end
+}
+
+fn quick_fill(bytes: &[u8], width: usize, limits: TargetLimits) -> bool
+    requires { ⌜ (3 ≤ width) × (width ≤ 4) ⌝ }
+    ensures { λ r. ⌜ r ≡ fillPasses limits (decodedOperation width (now (bytes .entry))) ⌝ }
+{
+    let address = address_in(bytes, width);
+    let length = length_in(bytes, width);
+    if out_of_range(address, length, limits.bulk_start, limits.bulk_end) {
+        return false;
+    }
+    true
 }
 
 fn quick_copy(
@@ -39,71 +63,71 @@ fn quick_copy(
     width: usize,
     pools: u32,
     directory: u32,
-    start: u32,
-    end: u64,
-    kind: u8,
-) -> usize
+    limits: TargetLimits,
+) -> bool
     requires { ⌜ (3 ≤ width) × (width ≤ 4) ⌝ }
-    ensures { λ r. ⌜ r ≡ quickCopy width (now (file .entry)) pools directory (now (bytes .entry)) start end kind ⌝ }
+    ensures { λ r. ⌜ r ≡ copyPasses (now (file .entry)) pools directory limits (decodedOperation width (now (bytes .entry))) ⌝ }
 {
-    let address = read_address(bytes, width, 2);
-    let id = read_u16(bytes, 2 + width) as u32;
-    let source = read_u32(bytes, 4 + width);
-    let length = read_u32(bytes, 8 + width);
-    if out_of_bulk(address, length, start, end) {
-        return 0;
+    let address = address_in(bytes, width);
+    let id = pool_in(bytes, width) as u32;
+    let source = source_in(bytes, width);
+    let length = length_in(bytes, width);
+    if out_of_range(address, length, limits.bulk_start, limits.bulk_end) {
+        return false;
     }
     if pools <= id {
-        return 0;
+        return false;
     }
-    let at = directory as usize + id as usize * 16;
-    if file.len() < at + 16 {
-        return 0;
+    let at = directory as usize + id as usize * ENTRY_SIZE;
+    if file.len() < at + ENTRY_SIZE {
+        return false;
     }
-    if pool_fits(window(file, at), kind, address, source, length) {
-        return 12 + width;
-    }
-    0
+    pool_fits(window(file, at), limits.kind, address, source, length)
 }
 
+// Whether an operation is passed. Each opcode has a way of its own that reads only its fields, and gives its size. Most operations are
+// WRITEs: they are told first, and their limit is read apart, so that the compiler makes no choice of three of it.
 pub fn quick_operation(
     file: &[u8],
     bytes: &[u8],
     width: usize,
     pools: u32,
     directory: u32,
-    limits: &[u32; TARGETS],
-    starts: &[u32; TARGETS],
-    ends: &[u64; TARGETS],
-    kinds: &[u8; TARGETS],
-) -> usize
+    table: &LimitTable,
+) -> Quick
     requires { ⌜ (3 ≤ width) × (width ≤ 4) ⌝ }
-    ensures { λ r. ⌜ r ≡ quickOperation width (now (file .entry)) pools directory (now (limits .entry)) (now (starts .entry)) (now (ends .entry)) (now (kinds .entry)) (now (bytes .entry)) ⌝ }
+    ensures { λ r. ⌜ r ≡ quickOperation width (now (file .entry)) pools directory (now (table .entry)) (now (bytes .entry)) ⌝ }
 {
-    let target = byte_at(bytes, 1) as usize;
+    let target = target_in(bytes) as usize;
     if TARGETS <= target {
-        return 0;
+        return Quick {
+            passed: false,
+            size: 0,
+        };
     }
-    let opcode = byte_at(bytes, 0);
+    let opcode = opcode_in(bytes);
     if opcode == 0 {
-        return quick_write(bytes, width, limits[target]);
+        let limits = limits_at(table, target);
+        return Quick {
+            passed: quick_write(bytes, width, limits),
+            size: operation_size(width, 0),
+        };
     }
-    let start = starts[target];
-    let end = ends[target];
+    let limits = limits_at(table, target);
     if opcode == 1 {
-        return quick_fill(bytes, width, start, end);
+        return Quick {
+            passed: quick_fill(bytes, width, limits),
+            size: operation_size(width, 1),
+        };
     }
     if opcode == 2 {
-        return quick_copy(
-            file,
-            bytes,
-            width,
-            pools,
-            directory,
-            start,
-            end,
-            kinds[target],
-        );
+        return Quick {
+            passed: quick_copy(file, bytes, width, pools, directory, limits),
+            size: operation_size(width, 2),
+        };
     }
-    0
+    Quick {
+        passed: false,
+        size: 0,
+    }
 }

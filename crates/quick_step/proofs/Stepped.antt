@@ -64,7 +64,9 @@ module _ (state : StreamPlayer) (file : List ℕ) (room : ℕ) (step : Step) whe
   version = state .header .version
 
   -- no record of the other kind
-  answers : (records : List WriteRecord) → records ≡ recordsBy file version step → call state file room ≡ ok (record { records = records; complete = step .complete; next = moved state (stepped (state .progress) step) }) → call state file room ≡ ok (answerOf state file step)
+  answers : (records : List WriteRecord) → records ≡ recordsBy file version step
+      → call state file room ≡ ok (record { records = records; complete = step .complete; next = moved state (stepped (state .progress) step) })
+      → call state file room ≡ ok (answerOf state file step)
   answers records same is = is ∙ ap {B = Checked Played} (λ (l : List WriteRecord). ok (record { records = l; complete = step .complete; next = moved state (stepped (state .progress) step) })) same
 
   pub step-call : step ≡ stepOf file (state .header) (state .cards) (state .progress) room → step .taken ≡ true → call state file room ≡ ok (answerOf state file step)

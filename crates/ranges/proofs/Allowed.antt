@@ -46,7 +46,8 @@ module _ (f : ℕ → Target) (n : ℕ) (below : n < 16) where
 -- TARGETS
 
 -- a target that may be used and is there is the one of its number, and its card breaks no rule
-pub usable-there : (version : ℕ) (cards : List CardRequirement) (n : ℕ) → missing (usable version cards n) ≡ false → ((eqb version 4 && leb 3 n && leb n 10 && slotWrong cards (slotOf n)) ≡ false) × (usable version cards n ≡ targetOf version cards n)
+pub usable-there : (version : ℕ) (cards : List CardRequirement) (n : ℕ) → missing (usable version cards n) ≡ false
+    → ((eqb version 4 && leb 3 n && leb n 10 && slotWrong cards (slotOf n)) ≡ false) × (usable version cards n ≡ targetOf version cards n)
 unfolding usable
 usable-there version cards n e = go (eqb version 4 && leb 3 n && leb n 10 && slotWrong cards (slotOf n)) e
   where

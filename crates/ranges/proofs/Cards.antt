@@ -48,7 +48,9 @@ with-slot f (card ∷ cards) slot low none = first (eqb (card .slot) slot) refl 
     other true e past = refl
     other false e past = rw (ne-eqb (slot + 3) (card .slot + 3) λ same. eqb-false (card .slot) slot e (omega arith))
 
-    first : (b : Bool) → eqb (card .slot) slot ≡ b → withCards f cards (slot + 3) ≡ cond (slotWrong cards slot) Missing (slotTarget cards slot) → cond (ltb 7 (card .slot)) (withCards f cards (slot + 3)) (cond (eqb (slot + 3) (card .slot + 3)) this (withCards f cards (slot + 3))) ≡ cond (cond b (oneCardWrong card) (slotWrong cards slot)) Missing (cond b (Slot (card .«bulk_start») (card .«bulk_length»)) (slotTarget cards slot))
+    first : (b : Bool) → eqb (card .slot) slot ≡ b → withCards f cards (slot + 3) ≡ cond (slotWrong cards slot) Missing (slotTarget cards slot)
+        → cond (ltb 7 (card .slot)) (withCards f cards (slot + 3)) (cond (eqb (slot + 3) (card .slot + 3)) this (withCards f cards (slot + 3)))
+        ≡ cond (cond b (oneCardWrong card) (slotWrong cards slot)) Missing (cond b (Slot (card .«bulk_start») (card .«bulk_length»)) (slotTarget cards slot))
     first true e rest =
         let same : card .slot ≡ slot = eqb-true (card .slot) slot e in
         rw (le-ltb 7 (card .slot) (omega arith), eq-eqb (slot + 3) (card .slot + 3) (omega arith))

@@ -89,7 +89,9 @@ put-ends f number target h =
     rw (set-tabled (λ k. cond (ltb k 16) (writeTop (f k)) (bulkEnd (f (k - 16)))) 32 number (writeTop target) (omega arith))
     (set-tabled _ 32 (number + 16) (bulkEnd target) (omega arith) ∙ tabled-same _ _ 32 λ n below. half n (ltb n 16) refl)
   where
-    half : (n : ℕ) → (b : Bool) → ltb n 16 ≡ b → cond (eqb n (number + 16)) (bulkEnd target) (cond (eqb n number) (writeTop target) (cond (ltb n 16) (writeTop (f n)) (bulkEnd (f (n - 16))))) ≡ cond (ltb n 16) (writeTop (put f number target n)) (bulkEnd (put f number target (n - 16)))
+    half : (n : ℕ) → (b : Bool) → ltb n 16 ≡ b
+        → cond (eqb n (number + 16)) (bulkEnd target) (cond (eqb n number) (writeTop target) (cond (ltb n 16) (writeTop (f n)) (bulkEnd (f (n - 16)))))
+        ≡ cond (ltb n 16) (writeTop (put f number target n)) (bulkEnd (put f number target (n - 16)))
     half n true e =
         rw (e, ne-eqb n (number + 16) λ same. omega (arith, ltb-true n 16 e)) (chosen (eqb n number) writeTop target (f n))
     half n false e =

@@ -5,6 +5,7 @@ use format::CardRequirement;
 use format::CardTable;
 use format::Target;
 use limit_tables::bulk_end;
+use target_lookup::held;
 ghost use mathlib.Core.Path.{_≡_};
 ghost use mathlib.Core.Bool.{cond};
 ghost use mathlib.Core.List.{[]};
@@ -81,17 +82,14 @@ fn put_card(starts: &mut [u32; RANGES], ends: &mut [u64; RANGES], card: CardRequ
     put_target(starts, ends, slot as usize + 3, card_target(card));
 }
 
-// How many cards a table has in a version: only version 4 has cards, and never more than eight.
-fn held(version: u8, count: usize) -> usize
+// How many cards count in a version: only version 4 has cards.
+fn cards_in(version: u8, count: usize) -> usize
     ensures { λ r. ⌜ (r ≡ cond (eqb version 4) (min count 8) 0) × (r ≤ 8) ⌝ }
 {
     if version != 4 {
         return 0;
     }
-    if count < 8 {
-        return count;
-    }
-    8
+    held(count)
 }
 
 // Fills the arrays, whose entries are 0, for a version with its cards. The cards are taken from the last to the first, so that of two
@@ -106,7 +104,7 @@ pub fn address_ranges(
     ensures { λ _. ⌜ (now (starts .exit) ≡ startsOf version (cardsOf cards)) × (now (ends .exit) ≡ endsOf version (cardsOf cards)) ⌝ }
 {
     put_plain(version, starts, ends);
-    let mut i = held(version, cards.count);
+    let mut i = cards_in(version, cards.count);
     while 0 < i {
         i -= 1;
         let card = cards.cards[i];

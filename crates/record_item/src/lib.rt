@@ -2,11 +2,12 @@
 use allowed::OperationRead;
 use allowed::allow;
 use allowed::target_number;
-use big_endian::byte_at;
-use big_endian::read_u24;
+use big_endian::item_bytes;
+use big_endian::passes;
+use fields::decode_record;
+use fields::operation_of;
 use format::CardTable;
 use format::Header;
-use format::Operation;
 use format::Refusal;
 use format::Rule;
 use target_lookup::find_target;
@@ -24,23 +25,15 @@ pub fn read_record(
 ) -> OperationRead
     ensures { λ r. ⌜ itemOf r ≡ recordAt (settingOf (now (file .entry)) header cards) (now (file .entry)) limit at ⌝ }
 {
-    if limit < 5 {
+    let item = decode_record(item_bytes(file, at));
+    let size = item.size;
+    if passes(limit, at, size) {
         return OperationRead::Refused(Refusal {
             rule: Rule::CutOff,
             place: at,
         });
     }
-    if limit - 5 < at {
-        return OperationRead::Refused(Refusal {
-            rule: Rule::CutOff,
-            place: at,
-        });
-    }
-    let operation = Operation::Write {
-        target: byte_at(file, at),
-        address: read_u24(file, at + 1),
-        value: byte_at(file, at + 4),
-    };
+    let operation = operation_of(item);
     let version = header.version;
     let target = find_target(target_number(operation), version, cards);
     let pools = header.pool_count;
@@ -53,6 +46,6 @@ pub fn read_record(
         at,
         target,
         operation,
-        at + 5,
+        at + size,
     )
 }

@@ -19,7 +19,7 @@ use Rattle.master.proofs.Master.{frames-behind}
 use Rattle.master.proofs.Result.{all-next, size-frame}
 use Rattle.master.proofs.Uses.{all-uses-next}
 use Rattle.wave_table.specs.Table.{wavesIn, Added}
-use Rattle.master.proofs.Known.{added-place, added-has, added-keeps-place, added-keeps}
+use Rattle.format.proofs.Known.{added-place, added-has, added-keeps-place, added-keeps}
 use Rattle.repack.specs.Measured.{Noted, MeasuredFrame}
 
 -- ---- a use
@@ -40,8 +40,13 @@ module _ {file places spots numbers : List ℕ} {waves uses : ℕ} (n : Noted fi
           few = omega arith;
           rest = λ k h. getD-set-other spots uses k at 0 (λ e. omega arith) ∙ n .rest k (omega arith);
           small = λ k. low-at k (ℕ-discrete k uses);
-          known = below-more (λ (k : ℕ). isKnown (wavesIn file places′ waves′) (waveAt file (getD spots′ k 0)) ≡ true) uses (λ k less. rw (kept k less, a .waves) (added-keeps known bytes (waveAt file (getD spots k 0)) (n .known k less))) (rw (last, a .waves) (added-has known bytes));
-          numbers-are = below-more (λ (k : ℕ). getD numbers′ k 0 ≡ placeOf (wavesIn file places′ waves′) (waveAt file (getD spots′ k 0))) uses (λ k less. rw (getD-set-other numbers uses k number 0 (λ e. omega arith), kept k less, a .waves, added-keeps-place known bytes (waveAt file (getD spots k 0)) (n .known k less)) (n .numbers-are k less)) (rw (getD-set-same numbers uses number 0 (omega (arith, n .numbers-size)), last, a .waves, added-place known bytes) (a .number-is));
+          known =
+              below-more (λ (k : ℕ). isKnown (wavesIn file places′ waves′) (waveAt file (getD spots′ k 0)) ≡ true) uses
+              (λ k less. rw (kept k less, a .waves) (added-keeps known bytes (waveAt file (getD spots k 0)) (n .known k less))) (rw (last, a .waves) (added-has known bytes));
+          numbers-are =
+              below-more (λ (k : ℕ). getD numbers′ k 0 ≡ placeOf (wavesIn file places′ waves′) (waveAt file (getD spots′ k 0))) uses
+              (λ k less. rw (getD-set-other numbers uses k number 0 (λ e. omega arith), kept k less, a .waves, added-keeps-place known bytes (waveAt file (getD spots k 0)) (n .known k less)) (n .numbers-are k less))
+              (rw (getD-set-same numbers uses number 0 (omega (arith, n .numbers-size)), last, a .waves, added-place known bytes) (a .number-is));
         }
       where
         low-at : (k : ℕ) → Dec (k ≡ uses) → getD (set numbers uses number) k 0 ≤ 11468
@@ -85,8 +90,12 @@ pub onward : (file : List ℕ) (left at waves uses : ℕ) (places spots heads′
 onward file left at waves uses places spots heads′ next′ places′ spots′ numbers′ waves′ uses′ size records place h e p frame =
     let rest = allUses file (left - 1) (behindFrame file at) in
     subst (Onward file left at waves uses places spots places′ spots′ waves′ uses′ size) p (record {
-      waves-on = all-next file (wavesIn file places waves) left at h ∙ ap (λ (known : List (List ℕ)). allWaves known file (left - 1) (behindFrame file at)) (ap (λ (n : ℕ). frameWaves (wavesIn file places waves) file n (at + 2)) e ∙ frame .waves-are);
-      uses-on = ap (λ (l : List ℕ). take uses spots ++ l) (all-uses-next file left at h) ∙ sym (append-assoc (take uses spots) (usesAt file (be 2 file at) (at + 2)) rest) ∙ ap (λ (l : List ℕ). l ++ rest) (ap (λ (n : ℕ). take uses spots ++ usesAt file n (at + 2)) e ∙ frame .uses-are);
+      waves-on =
+          all-next file (wavesIn file places waves) left at h
+          ∙ ap (λ (known : List (List ℕ)). allWaves known file (left - 1) (behindFrame file at)) (ap (λ (n : ℕ). frameWaves (wavesIn file places waves) file n (at + 2)) e ∙ frame .waves-are);
+      uses-on =
+          ap (λ (l : List ℕ). take uses spots ++ l) (all-uses-next file left at h) ∙ sym (append-assoc (take uses spots) (usesAt file (be 2 file at) (at + 2)) rest)
+          ∙ ap (λ (l : List ℕ). l ++ rest) (ap (λ (n : ℕ). take uses spots ++ usesAt file n (at + 2)) e ∙ frame .uses-are);
       size-on = size-frame file 0 [] left at h ∙ ap (λ (n : ℕ). 2 + n + length (frameBytes 0 [] file (left - 1) (behindFrame file at))) (ap (λ (n : ℕ). length (pieceBytes 0 [] file n (at + 2))) e ∙ frame .size-is);
       end-on = frames-behind file left at h;
     })

@@ -1,9 +1,15 @@
 // Repacking, its first half: the waves of a master, where they are used, and the size that its frames have when they are repacked.
 use big_endian::read_u16;
+use format::COUNT_SIZE;
+use format::RECORD_SIZE;
+use format::WAVE_RECORDS_SIZE;
+use format::WAVE_SIZE;
+use repack_items::WIDTH;
 use wave_run::starts_wave;
 use wave_table::BUCKETS;
 use wave_table::MOST;
 use wave_table::add_wave;
+use widths::operation_size;
 ghost use mathlib.Core.Path.{_≡_};
 ghost use Prim.Native.Nat.{_+_, _*_, _≤_, _<_};
 ghost use lib.ListN.{length, set};
@@ -49,9 +55,13 @@ fn measure_frame(
     spots: &mut [u32; SPOTS],
     numbers: &mut [u16; MOST],
 ) -> Measure
-    requires { ⌜ Table (now file) (now heads) (now next) (now places) known × Noted (now file) (now places) (now spots) (now numbers) known noted × (start + count * 5 ≤ length (now file)) × (known * 1280 ≤ start) × (noted * 1280 ≤ start) × (length (now file) ≤ 0xE00000) ⌝ }
-    ensures { λ r. ⌜ MeasuredFrame (now (file .entry)) start count known noted (now (places .entry)) (now (spots .entry)) (now (heads .exit)) (now (next .exit)) (now (places .exit)) (now (spots .exit)) (now (numbers .exit)) (r .waves) (r .uses) (r .size) ⌝ }
+    requires { ⌜ Table (now file) (now heads) (now next) (now places) known × Noted (now file) (now places) (now spots) (now numbers) known noted
+        × (start + count * 5 ≤ length (now file)) × (known * 1280 ≤ start) × (noted * 1280 ≤ start) × (length (now file) ≤ 0xE00000) ⌝ }
+    ensures { λ r. ⌜ MeasuredFrame (now (file .entry)) start count known noted (now (places .entry)) (now (spots .entry))
+        (now (heads .exit)) (now (next .exit)) (now (places .exit)) (now (spots .exit)) (now (numbers .exit)) (r .waves) (r .uses) (r .size) ⌝ }
 {
+    let write = operation_size(WIDTH, 0);
+    let copy = operation_size(WIDTH, 2);
     let mut at = start;
     let mut left = count;
     let mut waves = known;
@@ -63,13 +73,13 @@ fn measure_frame(
             note_use(spots, numbers, uses, at, wave.number);
             waves = wave.waves;
             uses += 1;
-            at += 1280;
-            left -= 256;
-            size += 15;
+            at += WAVE_RECORDS_SIZE;
+            left -= WAVE_SIZE;
+            size += copy;
         } else {
-            at += 5;
+            at += RECORD_SIZE;
             left -= 1;
-            size += 6;
+            size += write;
         }
     }
     Measure { waves, uses, size }
@@ -98,7 +108,7 @@ pub fn measure_frames(
         let records = read_u16(file, at) as usize;
         let frame = measure_frame(
             file,
-            at + 2,
+            at + COUNT_SIZE,
             records,
             waves,
             uses,
@@ -110,8 +120,8 @@ pub fn measure_frames(
         );
         waves = frame.waves;
         uses = frame.uses;
-        size += 2 + frame.size;
-        at += 2 + records * 5;
+        size += COUNT_SIZE + frame.size;
+        at += COUNT_SIZE + records * RECORD_SIZE;
         left -= 1;
     }
     Measure { waves, uses, size }

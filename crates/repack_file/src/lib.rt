@@ -1,7 +1,11 @@
 // Writes a repacked file, part by part, into a buffer that holds it.
+use bytes_put_header::put_header;
 use format::Header;
+use format::MASTER_HEADER_SIZE;
+use format::RECORD_SIZE;
 use repack::Measure;
 use repack::SPOTS;
+use repack_directory::put_directory;
 use repack_frames::put_frames;
 use repack_layout::Layout;
 use repack_layout::new_header;
@@ -10,12 +14,11 @@ use repack_opening::put_opening;
 use repack_payloads::put_pcm;
 use repack_payloads::put_waves;
 use wave_table::MOST;
-use written_directory::put_directory;
-use written_header::put_header;
 ghost use mathlib.Core.Path.{_≡_};
 ghost use Prim.Native.Nat.{_≤_};
 ghost use lib.ListN.{length};
 ghost use Rattle.format.specs.Repack.{repacked};
+ghost use Rattle.format.specs.Size.{fileLimit};
 ghost use Rattle.format.specs.Written.{written};
 ghost use Rattle.big_endian.specs.Put.{put};
 ghost use Rattle.master.specs.Places.{masterOf};
@@ -54,12 +57,13 @@ pub fn write_master(
     numbers: &[u16; MOST],
     buffer: &mut [u8],
 )
-    requires { ⌜ Known (now file) header (now places) (now spots) (now numbers) pcm (found .waves) (found .uses) (found .size) × (layout ≡ layoutOf (header .«initial_count») pcm (found .waves) (found .size)) × (layout .total ≤ 0xE00000) × (layout .total ≤ length (now buffer)) ⌝ }
+    requires { ⌜ Known (now file) header (now places) (now spots) (now numbers) pcm (found .waves) (found .uses) (found .size)
+        × (layout ≡ layoutOf (header .«initial_count») pcm (found .waves) (found .size)) × (layout .total ≤ fileLimit) × (layout .total ≤ length (now buffer)) ⌝ }
     ensures { λ _. ⌜ now (buffer .exit) ≡ put (written (repacked (masterOf (now (file .entry)) header))) 0 (now (buffer .entry)) ⌝ }
 {
     let records = header.initial_count as usize;
     let frames = header.frame_count as usize;
-    let start = 20 + records * 5;
+    let start = MASTER_HEADER_SIZE + records * RECORD_SIZE;
     write_front(file, header, pcm, found.waves, layout, places, buffer);
     put_opening(file, records, pcm, buffer, layout.opening);
     put_frames(

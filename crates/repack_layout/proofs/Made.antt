@@ -9,18 +9,18 @@ use Rattle.format.specs.declared.header.Header.{Header}
 use Rattle.format.specs.declared.operation.Operation.{Operation}
 use Rattle.format.specs.Bytes.{bytesOfAll}
 use Rattle.format.specs.Header.{headerSize}
-use Rattle.format.specs.Repack.{value, toPcm, toCores, pieces, packedPiece, pcmPools, pcmFill, pcmCopy, repacked}
+use Rattle.format.specs.Operation.{sizeOf}
+use Rattle.format.specs.Repack.{value, toPcm, toCores, pieces, packedPiece, pcmPools, wavePool, pcmFill, pcmCopy, repacked}
 use Rattle.format.specs.Stream.{Stream}
 use Rattle.format.specs.Written.{operationsBytes, framesBytes, directoryBytes, payloadsBytes, cardsBytes, headerIn, headerFields, payloadsPlace, openingPlace, framesPlace, endPlace, bodyBytes, written}
-use Rattle.round_trip.proofs.Places.{fields-size}
-use Rattle.round_trip.proofs.Tables.{directory-size}
-use Rattle.round_trip.proofs.RepackedFrames.{wavePool}
+use Rattle.format.proofs.Fields.{fields-size}
+use Rattle.format.proofs.Written.{directory-size}
 use Rattle.master.specs.Places.{recordsAt, framesAt, masterOf}
 use Rattle.wave_table.specs.Table.{wavesIn}
 use Rattle.master.specs.Result.{pcmBytes, coreBytes, frameBytes, allWaves}
 use Rattle.master.proofs.Pieces.{records-count}
-use Rattle.master.proofs.Result.{frame-bytes-size}
-use Rattle.written_directory.specs.Directory.{directoryOf}
+use Rattle.master.proofs.Result.{write-six, frame-bytes-size}
+use Rattle.repack_directory.specs.Directory.{directoryOf}
 use Rattle.repack_payloads.specs.Payloads.{wavesBytes}
 use Rattle.repack_opening.specs.Opening.{fillPart, copyPart, openingPart}
 use Rattle.repack_payloads.proofs.Payloads.{waves-size}
@@ -114,10 +114,10 @@ module _ {file : List ℕ} {header : Header} {places spots numbers : List ℕ} {
   payloads-size =
       ap length payloads-are ∙ length-append bytes (wavesBytes file places 0 waves) ∙ rw (known .pcm-is, waves-size)
 
-  cores-size : length (coreBytes file records 20) ≡ (records - pcm) * 6
-  cores-size = omega (arith, record-each file records 20, known .pcm-is)
+  cores-size : length (coreBytes file records 20) ≡ (records - pcm) * sizeOf 3 0
+  cores-size = rw write-six (omega (arith, record-each file records 20, known .pcm-is))
 
-  opening-size : length (openingPart file records pcm) ≡ length (fillPart pcm) + ((records - pcm) * 6 + length (copyPart pcm))
+  opening-size : length (openingPart file records pcm) ≡ length (fillPart pcm) + ((records - pcm) * sizeOf 3 0 + length (copyPart pcm))
   unfolding openingPart
   opening-size = simp (length-append, cores-size)
 
@@ -135,7 +135,7 @@ module _ {file : List ℕ} {header : Header} {places spots numbers : List ℕ} {
 
   frames-place : framesPlace s ≡ layout .frames
   unfolding layoutOf
-  frames-place = ap (λ (n : ℕ). openingPlace s + n) (ap length opening-are ∙ opening-size) ∙ ap (λ (n : ℕ). n + (length (fillPart pcm) + ((records - pcm) * 6 + length (copyPart pcm)))) opening-place
+  frames-place = ap (λ (n : ℕ). openingPlace s + n) (ap length opening-are ∙ opening-size) ∙ ap (λ (n : ℕ). n + (length (fillPart pcm) + ((records - pcm) * sizeOf 3 0 + length (copyPart pcm)))) opening-place
 
   end-place : endPlace s ≡ layout .total
   unfolding layoutOf
@@ -144,7 +144,19 @@ module _ {file : List ℕ} {header : Header} {places spots numbers : List ℕ} {
   header-is : headerIn s ≡ newHeader header layout
   unfolding newHeader headerSize
   header-is =
-      let said : (f p o i t e : ℕ) → Header = λ f p o i t e. record { version = 2; repeat = header .repeat; «frame_period» = 0; «card_count» = 0; «frame_count» = f; «pool_count» = p; «initial_count» = o; «directory_offset» = 40; «initial_start» = i; «frame_start» = t; «total_size» = e } in
+      let said : (f p o i t e : ℕ) → Header = λ f p o i t e. record {
+        version = 2;
+        repeat = header .repeat;
+        «frame_period» = 0;
+        «card_count» = 0;
+        «frame_count» = f;
+        «pool_count» = p;
+        «initial_count» = o;
+        «directory_offset» = 40;
+        «initial_start» = i;
+        «frame_start» = t;
+        «total_size» = e;
+      } in
       let pools : length (s .pools) ≡ layout .pools = unfold layoutOf in pools-are in
       let operations : length (s .opening) ≡ layout .operations = unfold layoutOf in operations-are in
       (λ i. said (frames-counted i) (pools i) (operations i) (opening-place i) (frames-place i) (end-place i))
@@ -218,7 +230,7 @@ module _ {file : List ℕ} {header : Header} {places spots numbers : List ℕ} {
           frames-at = omega (arith, frames-at);
           end-at = omega (arith, total-at);
           few = omega (arith, total-at, frames-at, opening-at, payloads-at);
-          less = omega (arith, total-at, frames-at, opening-size, fills-few pcm, copies-few pcm);
+          less = omega (arith, total-at, frames-at, rw write-six at opening-size, fills-few pcm, copies-few pcm);
           small = small;
           room = room;
         }

@@ -10,10 +10,10 @@ use Rattle.format.specs.Bytes.{bytesOfAll}
 use Rattle.format.specs.Header.{headerSize}
 use Rattle.format.specs.Repack.{pcmFill}
 use Rattle.format.specs.Written.{headerFields}
-use Rattle.round_trip.proofs.Places.{fields-size}
+use Rattle.format.proofs.Fields.{fields-size}
 use Rattle.master.specs.Result.{pcmBytes}
-use Rattle.written_directory.specs.Directory.{directoryOf}
-use Rattle.written_directory.proofs.Directory.{directory-none, directory-some}
+use Rattle.repack_directory.specs.Directory.{directoryOf}
+use Rattle.repack_directory.proofs.Directory.{directory-none, directory-some}
 use Rattle.repack_payloads.specs.Payloads.{wavesBytes}
 use Rattle.repack_payloads.proofs.Payloads.{waves-size}
 use Rattle.repack_layout.specs.declared.Layout.{Layout}
@@ -43,8 +43,11 @@ directory-long zero waves start = directory-none 0 waves start refl ∙ omega ar
 directory-long (suc n) waves start = directory-some (suc n) waves start (λ e. omega arith) ∙ omega arith
 
 -- what the new header says of itself
-pub new-version : (header : Header) (layout : Layout) → (newHeader header layout .version ≡ 2) × (newHeader header layout .«card_count» ≡ 0) × (newHeader header layout .«frame_start» ≡ layout .frames)
-unfolding newHeader
+pub new-version : (header : Header) (layout : Layout)
+    → (newHeader header layout .version ≡ 2)
+    × (headerSize (newHeader header layout .version) ≡ 40)
+    × (newHeader header layout .«frame_start» ≡ layout .frames)
+unfolding newHeader headerSize
 new-version header layout = (refl, refl, refl)
 
 pub header-long : (header : Header) (layout : Layout) → length (bytesOfAll (headerFields (newHeader header layout))) ≡ 40
@@ -52,7 +55,9 @@ unfolding newHeader headerSize
 header-long header layout = fields-size (headerFields (newHeader header layout))
 
 module _ {file : List ℕ} {header : Header} {pcm waves : ℕ} {layout : Layout} {places buffer : List ℕ} (fits : FrontFits file header pcm waves layout places buffer) where
-  pub front-is : frontOf file header pcm waves layout places ≡ bytesOfAll (headerFields (newHeader header layout)) ++ (directoryOf pcm waves (layout .payloads) ++ (pcmBytes file (header .«initial_count») 20 ++ wavesBytes file places 0 waves))
+  pub front-is :
+      frontOf file header pcm waves layout places
+      ≡ bytesOfAll (headerFields (newHeader header layout)) ++ (directoryOf pcm waves (layout .payloads) ++ (pcmBytes file (header .«initial_count») 20 ++ wavesBytes file places 0 waves))
   unfolding frontOf
   front-is = refl
 

@@ -7,12 +7,12 @@ use native.Mathlib.Omega.{arith}
 use lib.ListN.{length, take, drop}
 use lib.Seq.{drop-cons}
 use Rattle.format.specs.Bytes.{byte}
-use Rattle.format.specs.Repack.{pcmPools, pcmFill, pcmCopy}
+use Rattle.format.specs.Repack.{pcmPools, wavePool, pcmFill, pcmCopy}
 use Rattle.format.specs.Written.{directoryBytes, payloadsBytes}
-use Rattle.round_trip.proofs.Items.{operations-count}
-use Rattle.round_trip.proofs.RepackedFrames.{wavePool}
+use Rattle.format.proofs.Written.{operations-count}
 use Rattle.master.specs.Places.{waveAt}
-use Rattle.written_directory.specs.Directory.{entryBytes, waveEntries, directoryOf}
+use Rattle.bytes_put_tables.specs.Entry.{entryBytes}
+use Rattle.repack_directory.specs.Directory.{waveEntries, directoryOf}
 use Rattle.repack_payloads.specs.Payloads.{wavesBytes}
 use Rattle.repack_opening.specs.Opening.{fillPart, copyPart}
 use Rattle.repack_payloads.proofs.Payloads.{wave-size}

@@ -5,12 +5,14 @@ use mathlib.Core.Path.{_≡_}
 use lib.ListN.{length}
 use Rattle.format.specs.declared.header.Header.{Header}
 use Rattle.format.specs.Bytes.{bytesOfAll}
+use Rattle.format.specs.Operation.{sizeOf}
 use Rattle.format.specs.Repack.{pcmFill}
+use Rattle.format.specs.Size.{pooledHeaderSize, entrySize, waveSize, fileLimit}
 use Rattle.format.specs.Written.{headerFields}
 use Rattle.master.specs.Places.{framesEnd}
 use Rattle.master.specs.Result.{pcmBytes}
 use Rattle.repack.specs.Measured.{Measured}
-use Rattle.written_directory.specs.Directory.{directoryOf}
+use Rattle.repack_directory.specs.Directory.{directoryOf}
 use Rattle.repack_payloads.specs.Payloads.{wavesBytes, AllInside}
 use Rattle.repack_opening.specs.Opening.{fillPart, copyPart}
 use Rattle.repack_layout.specs.declared.Layout.{Layout}
@@ -24,14 +26,33 @@ unfoldable pub layoutOf : (records pcm waves size : ℕ) → Layout
 layoutOf records pcm waves size =
     let cores = records - pcm in
     let pools = pcmPool pcm + waves in
-    let payloads = 40 + pools * 16 in
-    let opening = payloads + (pcm + waves * 256) in
-    let frames = opening + (length (fillPart pcm) + (cores * 6 + length (copyPart pcm))) in
-    record { pools = pools; operations = length (pcmFill pcm) + (cores + pcmPool pcm); payloads = payloads; opening = opening; frames = frames; total = frames + size }
+    let payloads = pooledHeaderSize + pools * entrySize in
+    let opening = payloads + (pcm + waves * waveSize) in
+    let frames = opening + (length (fillPart pcm) + (cores * sizeOf 3 0 + length (copyPart pcm))) in
+    record {
+      pools = pools;
+      operations = length (pcmFill pcm) + (cores + pcmPool pcm);
+      payloads = payloads;
+      opening = opening;
+      frames = frames;
+      total = frames + size;
+    }
 
 unfoldable pub newHeader : Header → Layout → Header
 newHeader header layout =
-    record { version = 2; repeat = header .repeat; «frame_period» = 0; «card_count» = 0; «frame_count» = header .«frame_count»; «pool_count» = layout .pools; «initial_count» = layout .operations; «directory_offset» = 40; «initial_start» = layout .opening; «frame_start» = layout .frames; «total_size» = layout .total }
+    record {
+      version = 2;
+      repeat = header .repeat;
+      «frame_period» = 0;
+      «card_count» = 0;
+      «frame_count» = header .«frame_count»;
+      «pool_count» = layout .pools;
+      «initial_count» = layout .operations;
+      «directory_offset» = pooledHeaderSize;
+      «initial_start» = layout .opening;
+      «frame_start» = layout .frames;
+      «total_size» = layout .total;
+    }
 
 -- a master that was measured
 pub record Known (file : List ℕ) (header : Header) (places spots numbers : List ℕ) (pcm waves uses size : ℕ) : Type 0 where
@@ -39,7 +60,7 @@ pub record Known (file : List ℕ) (header : Header) (places spots numbers : Lis
   pub measured : Measured file (20 + header .«initial_count» * 5) (header .«frame_count») places spots numbers waves uses size
   pub opening-fits : 20 + header .«initial_count» * 5 ≤ length file
   pub frames-fit : framesEnd file (header .«frame_count») (20 + header .«initial_count» * 5) ≤ length file
-  pub small : length file ≤ 0xE00000
+  pub small : length file ≤ fileLimit
 
 -- the header, the directory and the payloads
 unfoldable pub frontOf : (file : List ℕ) (header : Header) (pcm waves : ℕ) (layout : Layout) (places : List ℕ) → List ℕ
@@ -58,5 +79,5 @@ pub record FrontFits (file : List ℕ) (header : Header) (pcm waves : ℕ) (layo
   pub end-at : layout .frames ≤ layout .total
   pub few : layout .pools ≤ layout .total
   pub less : layout .operations ≤ layout .total
-  pub small : layout .total ≤ 0xE00000
+  pub small : layout .total ≤ fileLimit
   pub room : layout .total ≤ length buffer

@@ -1,10 +1,17 @@
 // Where the parts of a repacked file start, by the numbers that were measured, and its header.
+use format::ENTRY_SIZE;
 use format::Header;
+use format::PCM_SIZE;
+use format::POOLED_HEADER_SIZE;
+use format::WAVE_SIZE;
+use repack_items::WIDTH;
 use repack_opening::copy_size;
 use repack_opening::fill_size;
+use widths::operation_size;
 ghost use mathlib.Core.Path.{_≡_};
-ghost use Prim.Native.Nat.{_≤_};
+ghost use Prim.Native.Nat.{_*_, _≤_};
 ghost use lib.ListN.{length};
+ghost use Rattle.format.specs.Operation.{sizeOf};
 ghost use Rattle.format.specs.Repack.{pcmFill};
 ghost use Rattle.repack_layout.specs.Layout.{pcmPool, layoutOf, newHeader};
 
@@ -35,10 +42,18 @@ fn fill_count(pcm: usize) -> usize
     if pcm == 0 {
         return 0;
     }
-    if 1048576 <= pcm {
+    if PCM_SIZE <= pcm {
         return 0;
     }
     1
+}
+
+// How many bytes so many WRITEs take.
+fn writes_size(count: usize) -> usize
+    requires { ⌜ count ≤ 0xE00000 ⌝ }
+    ensures { λ r. ⌜ (r ≡ count * sizeOf 3 0) × (r ≤ 0x10000000) ⌝ }
+{
+    count * operation_size(WIDTH, 0)
 }
 
 // The layout of a master of so many opening records, of which so many go to PCM, with so many waves; its frames take `size` bytes.
@@ -48,9 +63,9 @@ pub fn lay_out(records: usize, pcm: usize, waves: usize, size: usize) -> Layout
 {
     let cores = records - pcm;
     let pools = pcm_pool(pcm) + waves;
-    let payloads = 40 + pools * 16;
-    let opening = payloads + (pcm + waves * 256);
-    let frames = opening + (fill_size(pcm) + (cores * 6 + copy_size(pcm)));
+    let payloads = POOLED_HEADER_SIZE + pools * ENTRY_SIZE;
+    let opening = payloads + (pcm + waves * WAVE_SIZE);
+    let frames = opening + (fill_size(pcm) + (writes_size(cores) + copy_size(pcm)));
     Layout {
         pools,
         operations: fill_count(pcm) + (cores + pcm_pool(pcm)),
@@ -74,7 +89,7 @@ pub fn new_header(header: Header, layout: Layout) -> Header
         frame_count: header.frame_count,
         pool_count: layout.pools as u32,
         initial_count: layout.operations as u32,
-        directory_offset: 40,
+        directory_offset: POOLED_HEADER_SIZE as u32,
         initial_start: layout.opening as u32,
         frame_start: layout.frames,
         total_size: layout.total as u32,

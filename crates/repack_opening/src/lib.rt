@@ -1,9 +1,14 @@
 // The opening: whether a master's PCM records are in order, and the opening of its repacked file: a FILL of the PCM memory that was
 // not written, the core records, a COPY of the PCM bytes.
 use big_endian::read_u24;
-use written_items::put_copy;
-use written_items::put_fill;
-use written_items::put_record;
+use bytes_put_items::put_copy;
+use bytes_put_items::put_fill;
+use format::MASTER_HEADER_SIZE;
+use format::PCM_SIZE;
+use format::RECORD_SIZE;
+use repack_items::WIDTH;
+use repack_items::put_record;
+use widths::operation_size;
 ghost use mathlib.Core.Path.{_≡_};
 ghost use Prim.Native.Nat.{_+_, _*_, _≤_, _<_};
 ghost use lib.ListN.{length};
@@ -11,9 +16,6 @@ ghost use Rattle.big_endian.specs.Put.{put};
 ghost use Rattle.master.specs.Places.{recordsAt};
 ghost use Rattle.master.specs.Result.{pcmFrom, coreBytes};
 ghost use Rattle.repack_opening.specs.Opening.{fillPart, copyPart, openingPart, pcmIn};
-
-// The bytes of PCM memory.
-const PCM_SIZE: usize = 1048576;
 
 // The opening's PCM records: how many there are, if their addresses run 0, 1, 2 and so on.
 pub enum PcmRun {
@@ -26,7 +28,7 @@ pub fn pcm_run(file: &[u8], count: usize) -> PcmRun
     requires { ⌜ 20 + count * 5 ≤ length (now file) ⌝ }
     ensures { λ r. ⌜ pcmIn r ≡ pcmFrom 0 (recordsAt (now (file .entry)) count 20) ⌝ }
 {
-    let mut at: usize = 20;
+    let mut at = MASTER_HEADER_SIZE;
     let mut left = count;
     let mut pcm: usize = 0;
     while 0 < left {
@@ -36,7 +38,7 @@ pub fn pcm_run(file: &[u8], count: usize) -> PcmRun
             }
             pcm += 1;
         }
-        at += 5;
+        at += RECORD_SIZE;
         left -= 1;
     }
     PcmRun::InOrder(pcm)
@@ -44,25 +46,25 @@ pub fn pcm_run(file: &[u8], count: usize) -> PcmRun
 
 // How many bytes the FILL takes.
 pub fn fill_size(pcm: usize) -> usize
-    ensures { λ r. ⌜ (r ≡ length (fillPart pcm)) × (r ≤ 10) ⌝ }
+    ensures { λ r. ⌜ (r ≡ length (fillPart pcm)) × (r ≤ 16) ⌝ }
 {
     if pcm == 0 {
         return 0;
     }
     if pcm < PCM_SIZE {
-        return 10;
+        return operation_size(WIDTH, 1);
     }
     0
 }
 
 // How many bytes the COPY takes.
 pub fn copy_size(pcm: usize) -> usize
-    ensures { λ r. ⌜ (r ≡ length (copyPart pcm)) × (r ≤ 15) ⌝ }
+    ensures { λ r. ⌜ (r ≡ length (copyPart pcm)) × (r ≤ 16) ⌝ }
 {
     if pcm == 0 {
         return 0;
     }
-    15
+    operation_size(WIDTH, 2)
 }
 
 // The FILL of the rest of the PCM memory, if PCM was written and less than all of it.
@@ -76,7 +78,15 @@ fn put_pcm_fill(buffer: &mut [u8], at: usize, pcm: usize)
     if PCM_SIZE <= pcm {
         return;
     }
-    put_fill(buffer, at, 2, pcm as u32, (PCM_SIZE - pcm) as u32, 0x80);
+    put_fill(
+        buffer,
+        at,
+        WIDTH,
+        2,
+        pcm as u32,
+        (PCM_SIZE - pcm) as u32,
+        0x80,
+    );
 }
 
 // The COPY of all PCM bytes, if PCM was written.
@@ -87,7 +97,7 @@ fn put_pcm_copy(buffer: &mut [u8], at: usize, pcm: usize)
     if pcm == 0 {
         return;
     }
-    put_copy(buffer, at, 2, 0, 0, pcm as u32);
+    put_copy(buffer, at, WIDTH, 2, 0, 0, 0, pcm as u32);
 }
 
 // The core records of an opening of so many records, as WRITEs.
@@ -95,15 +105,16 @@ fn put_cores(file: &[u8], count: usize, buffer: &mut [u8], at: usize) -> usize
     requires { ⌜ (20 + count * 5 ≤ length (now file)) × (at + length (coreBytes (now file) count 20) ≤ length (now buffer)) ⌝ }
     ensures { λ r. ⌜ (now (buffer .exit) ≡ put (coreBytes (now (file .entry)) count 20) at (now (buffer .entry))) × (r ≡ at + length (coreBytes (now (file .entry)) count 20)) ⌝ }
 {
-    let mut from: usize = 20;
+    let write = operation_size(WIDTH, 0);
+    let mut from = MASTER_HEADER_SIZE;
     let mut left = count;
     let mut place = at;
     while 0 < left {
         if file[from] != 2 {
             put_record(file, from, buffer, place);
-            place += 6;
+            place += write;
         }
-        from += 5;
+        from += RECORD_SIZE;
         left -= 1;
     }
     place

@@ -1,4 +1,7 @@
 // The payloads of a repacked file: the opening's PCM bytes, and the waves.
+use format::MASTER_HEADER_SIZE;
+use format::RECORD_SIZE;
+use format::WAVE_SIZE;
 use wave_table::MOST;
 ghost use mathlib.Core.Path.{_≡_};
 ghost use Prim.Native.Nat.{_+_, _*_, _≤_};
@@ -13,7 +16,7 @@ pub fn put_pcm(file: &[u8], count: usize, buffer: &mut [u8], at: usize)
     requires { ⌜ (20 + count * 5 ≤ length (now file)) × (at + length (pcmBytes (now file) count 20) ≤ length (now buffer)) ⌝ }
     ensures { λ _. ⌜ now (buffer .exit) ≡ put (pcmBytes (now (file .entry)) count 20) at (now (buffer .entry)) ⌝ }
 {
-    let mut from: usize = 20;
+    let mut from = MASTER_HEADER_SIZE;
     let mut left = count;
     let mut place = at;
     while 0 < left {
@@ -21,7 +24,7 @@ pub fn put_pcm(file: &[u8], count: usize, buffer: &mut [u8], at: usize)
             buffer[place] = file[from + 4];
             place += 1;
         }
-        from += 5;
+        from += RECORD_SIZE;
         left -= 1;
     }
 }
@@ -32,12 +35,12 @@ fn put_wave(file: &[u8], start: usize, buffer: &mut [u8], at: usize)
     ensures { λ _. ⌜ now (buffer .exit) ≡ put (waveAt (now (file .entry)) start) at (now (buffer .entry)) ⌝ }
 {
     let mut from = start;
-    let mut left: usize = 256;
+    let mut left = WAVE_SIZE;
     let mut place = at;
     while 0 < left {
         buffer[place] = file[from + 4];
         place += 1;
-        from += 5;
+        from += RECORD_SIZE;
         left -= 1;
     }
 }
@@ -51,7 +54,7 @@ pub fn put_waves(file: &[u8], places: &[u32; MOST], count: usize, buffer: &mut [
     let mut place = at;
     while wave < count {
         put_wave(file, places[wave] as usize, buffer, place);
-        place += 256;
+        place += WAVE_SIZE;
         wave += 1;
     }
 }

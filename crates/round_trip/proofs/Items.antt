@@ -1,5 +1,5 @@
 -- Operations that are written, read.
-use Prim.Native.Nat.{ℕ, _+_, _*_, _^_, _≤_, _<_}
+use Prim.Native.Nat.{ℕ, _+_, _^_, _≤_, _<_}
 use mathlib.Core.Path.{_≡_, refl, sym, _∙_}
 use mathlib.Core.Bool.{Bool, true, false, cond, _&&_}
 use mathlib.Core.List.{List, [], _∷_, _++_, append-assoc}
@@ -8,7 +8,6 @@ use native.Mathlib.Omega.{arith}
 use borrow.Author.Tests.{le-ltb, lt-leb, eqb-true}
 use lib.Dec.{eqb, lit≤}
 use lib.ListN.{length, getD, drop, length-append}
-use Rattle.format.specs.declared.card.CardRequirement.{CardRequirement}
 use Rattle.format.specs.declared.operation.Operation.{Operation}
 use Rattle.format.specs.declared.operation.Operation.the-variants.{Write, Fill, Copy}
 use Rattle.format.specs.Bytes.{byte, be, bytesOfAll, u16}
@@ -19,7 +18,10 @@ use Rattle.format.specs.Operation.{Setting, addressWidth, sizeOf, fieldsAt, wri
 use Rattle.format.specs.Stream.{operationsFrom, framesFrom}
 use Rattle.format.specs.Target.{targetOf, writeLimit}
 use Rattle.format.specs.Written.{operationFields, withoutFirst, itemBytes, operationsBytes, framesBytes}
-use Rattle.round_trip.proofs.Places.{Holds, Fit, fieldsSize, fields-size, holds, behind}
+use Rattle.format.proofs.Bytes.{behind}
+use Rattle.format.proofs.Fields.{fieldsSize, fields-size}
+use Rattle.format.proofs.Written.{operation-some}
+use Rattle.round_trip.proofs.Places.{Holds, Fit, holds}
 use Rattle.format.proofs.Rules.{EntryFor, inside-passes, takes-passes}
 use Rattle.round_trip.proofs.Each.{each-at}
 use Rattle.round_trip.proofs.Widths.{addresses-below, narrow-below, addresses-fit, kind-long}
@@ -81,7 +83,8 @@ fields-fit setting pools for (Copy target address id source size) fits =
     let all = addresses-below (setting .version) (setting .cards) (for .cards-fit) target in
     let inside = fits .inside in
     let pool = getD pools id noPool in
-    let long : length (pool .bytes) ≤ 0x2000000 = kind-long (setting .version) (pool .kind) (length (pool .bytes)) (each-at (PoolFits (setting .version)) pools id noPool (for .pools-fit) (fits .known) .kind-size) in
+    let kind = each-at (PoolFits (setting .version)) pools id noPool (for .pools-fit) (fits .known) .kind-size in
+    let long : length (pool .bytes) ≤ 0x2000000 = kind-long (setting .version) (pool .kind) (length (pool .bytes)) kind in
     (omega (arith, narrow .1, inside .some, inside .up-to), (omega (arith, fits .known, for .few), (omega (arith, fits .takes .in-pool), (omega (arith, all .1, inside .up-to), tt))))
 
 -- its fields, read
@@ -110,17 +113,14 @@ fields-read file width at (Copy target address pool source size) h =
 size-read : (version : ℕ) (operation : Operation)
     → sizeOf (addressWidth version) (opcodeOf operation) ≡ length (bytesOfAll (operationFields (addressWidth version) operation))
 size-read version operation =
-    size-is (addressWidth version) (opcodeOf operation) (width-range version .0) (width-range version .1) (opcode-small operation) ∙ go operation ∙ sym (fields-size (operationFields (addressWidth version) operation))
+    size-is (addressWidth version) (opcodeOf operation) (width-range version .0) (width-range version .1) (opcode-small operation)
+    ∙ go operation
+    ∙ sym (fields-size (operationFields (addressWidth version) operation))
   where
     go : (o : Operation) → addressWidth version + getD extras (opcodeOf o) 0 ≡ fieldsSize (operationFields (addressWidth version) o)
     go (Write target address value) = omega arith
     go (Fill target address size value) = omega arith
     go (Copy target address pool source size) = omega arith
-
-operation-some : (width : ℕ) (operation : Operation) → 1 ≤ length (bytesOfAll (operationFields width operation))
-operation-some width (Write target address value) = rw fields-size (omega arith)
-operation-some width (Fill target address size value) = rw fields-size (omega arith)
-operation-some width (Copy target address pool source size) = rw fields-size (omega arith)
 
 -- an operation where its bytes stand
 pub operation-here : (setting : Setting) (pools : List Payload) → For pools setting → (file : List ℕ) (limit at : ℕ) (operation : Operation) (rest : List ℕ)
@@ -229,35 +229,3 @@ module _ (setting : Setting) (pools : List Payload) (for : For pools setting) (f
         sum,
         places,
       )
-
--- how many there can be
-item-some : (version : ℕ) (operation : Operation) → 1 ≤ length (itemBytes version operation)
-unfolding itemBytes
-item-some version operation = go (eqb version 1) operation
-  where
-    go : (b : Bool) (o : Operation) → 1 ≤ length (bytesOfAll (cond b (withoutFirst (operationFields 3 o)) (operationFields (addressWidth version) o)))
-    go true (Write target address value) = rw fields-size (lit≤ tt)
-    go true (Fill target address size value) = rw fields-size (lit≤ tt)
-    go true (Copy target address pool source size) = rw fields-size (lit≤ tt)
-    go false o = operation-some (addressWidth version) o
-
-pub operations-count : (version : ℕ) (operations : List Operation) → length operations ≤ length (operationsBytes version operations)
-unfolding operationsBytes
-operations-count version [] = lit≤ tt
-operations-count version (operation ∷ operations) = simp length-append (omega (arith, item-some version operation, operations-count version operations))
-
-pub frames-count : (version : ℕ) (frames : List (List Operation)) → length frames * 2 ≤ length (framesBytes version frames)
-unfolding framesBytes
-frames-count version [] = lit≤ tt
-frames-count version (frame ∷ frames) =
-    simp (length-append, fields-size (u16 (length frame) ∷ [])) (omega (arith, frames-count version frames))
-
--- the records of version 1 have 5 bytes each
-pub records-size : (cards : List CardRequirement) (pools : List Payload) (operations : List Operation) → Each (OperationFits 1 cards pools) operations
-    → length (operationsBytes 1 operations) ≡ length operations * 5
-unfolding operationsBytes itemBytes
-records-size cards pools [] fits = refl
-records-size cards pools (Write target address value ∷ operations) fits =
-    simp (length-append, fields-size (withoutFirst (operationFields 3 (Write target address value))), records-size cards pools operations (fits .1)) (omega arith)
-records-size cards pools (Fill target address size value ∷ operations) fits = absurd (omega (arith, fits .0 .pooled))
-records-size cards pools (Copy target address pool source size ∷ operations) fits = absurd (omega (arith, fits .0 .pooled))

@@ -20,7 +20,7 @@ use Rattle.format.proofs.Bytes.{AllBytes}
 use Rattle.format.proofs.Checks.{given, and-true}
 use Rattle.format.proofs.Steps.{CardFine, one-card-fine, card-step, pool-step}
 use Rattle.round_trip.proofs.Each.{part-bytes}
-use Rattle.round_trip.proofs.Places.{Took, took-none, took-both, took-part, took-fields}
+use Rattle.round_trip.proofs.Places.{Holds, Took, took-none, took-both, took-part, took-fields}
 
 part-size : (file : List ℕ) (at n : ℕ) → at + n ≤ length file → length (part file at n) ≡ n
 part-size file at n h = length-take-le n (drop at file) (simp length-drop (omega arith))
@@ -109,7 +109,8 @@ pools-taken version file bytes directory (suc count) id start found inside room 
     let mine : Payload = record { kind = pool .kind; bytes = part file start n } in
     let size : length (mine .bytes) ≡ n = part-size file start n fits in
     let fields = entryFields id start mine in
-    let entry : Took file at next (bytesOfAll fields) = took-fields file at next fields bytes (omega arith) (omega arith) (rw add-zero (fine .id-here), (refl, (fine .codec, (sym size, (rw size (fine .again), (fine .here, tt)))))) in
+    let numbers : Holds file at 0 fields = (rw add-zero (fine .id-here), (refl, (fine .codec, (sym size, (rw size (fine .again), (fine .here, tt)))))) in
+    let entry : Took file at next (bytesOfAll fields) = took-fields file at next fields bytes (omega arith) (omega arith) numbers in
     let behind = subst (λ (k : ℕ). Took file next end (directoryBytes (suc id) (start + k) (others .0))) (sym size) (more .entries) in
     subst (PoolsTaken version file directory (suc count) id start) (step .is) (record {
       counted = ap suc (more .counted);

@@ -1,5 +1,5 @@
 -- A repacked master is within the limits, and agrees with the master: the comparison passes it.
-use Prim.Native.Nat.{ℕ, _+_, _*_, _-_, _≤_}
+use Prim.Native.Nat.{ℕ, _+_, _*_, _≤_}
 use mathlib.Core.Path.{_≡_, refl, sym, ap, _∙_, subst}
 use mathlib.Core.Bool.{Bool, true, false, not, _&&_, Bool·beq}
 use mathlib.Core.Logic.{inl}
@@ -15,7 +15,7 @@ use Rattle.format.specs.Checked.{ok}
 use Rattle.format.specs.Compare.{sameWrites, coreWrites, played, imageOf, sameFrames, agree, compared, agreed}
 use Rattle.format.specs.Limits.{Each, OperationFits, PoolFits, FrameFits, Limits}
 use Rattle.format.specs.Pool.{Payload}
-use Rattle.format.specs.Repack.{value, toPcm, toCores, inOrder, pieces, wavesOf, pcmPools, pcmFill, pcmCopy, repacked, repack}
+use Rattle.format.specs.Repack.{value, toPcm, toCores, inOrder, pieces, wavesOf, pcmPools, wavePool, pcmFill, pcmCopy, repacked, repack}
 use Rattle.format.specs.Stream.{Stream, read}
 use Rattle.format.specs.Writes.{upward, writesOfAll, openingWrites}
 use Rattle.format.specs.Written.{payloadsBytes, cardsBytes, written}
@@ -25,11 +25,13 @@ use Rattle.round_trip.proofs.Rewritten.{accepted}
 use Rattle.format.proofs.Bytes.{AllBytes}
 use Rattle.format.proofs.Compared.{reads-version}
 use Rattle.format.proofs.Same.{bytes-self, writes-self, core-append, played-append}
+use Rattle.format.proofs.Writes.{writes-append}
 use Rattle.round_trip.proofs.Written.{written-bytes}
 use Rattle.round_trip.proofs.Whole.{written-size, round-trip}
-use Rattle.round_trip.proofs.Waves.{Records, PieceKnown, all-known, WaveFits, waves-fit, writes-append}
-use Rattle.round_trip.proofs.RepackedFrames.{wavePool, frames-fit, frames-agree}
-use Rattle.round_trip.proofs.RepackedOpening.{pcm-count, pcm-bytes, cores-fit, fill-fits, copy-fits, pcm-pool-fits, wave-pools-fit, pcm-core, cores-core, cores-played, pcm-played, still, fill-writes, copy-writes}
+use Rattle.round_trip.proofs.Waves.{Records, PieceKnown, all-known, WaveFits, waves-fit}
+use Rattle.round_trip.proofs.RepackedFrames.{frames-fit, frames-agree}
+use Rattle.round_trip.proofs.RepackedOpening.{pcm-count, pcm-bytes, cores-fit, fill-fits, copy-fits, pcm-pool-fits, wave-pools-fit}
+use Rattle.round_trip.proofs.RepackedOpening.{pcm-core, cores-core, cores-played, pcm-played, still, fill-writes, copy-writes}
 
 waves-long : (front : List Payload) (waves : List (List ℕ)) → Each WaveFits waves → length waves * 256 ≤ length (payloadsBytes (front ++ map wavePool waves))
 unfolding payloadsBytes
@@ -97,9 +99,11 @@ module _ (s : Stream) (within : Limits s) (master : s .version ≡ 1) (ordered :
       let first = upward 2 (length pcm) (replicate (opening-writes .0) 0x80) in
       let cores = writesOfAll pools (toCores (s .opening)) in
       let last = upward 2 0 pcm in
+      let filled = ap (λ (m : List ℕ). played m cores) (still size (opening-writes .0) (length pcm) 0x80) in
+      let unplayed = played-append memory first cores ∙ filled ∙ cores-played pools memory (s .opening) opening-records in
       ap (played memory) (opening-writes .1)
       ∙ played-append memory (first ++ cores) last
-      ∙ ap (λ (m : List ℕ). played m last) (played-append memory first cores ∙ ap (λ (m : List ℕ). played m cores) (still size (opening-writes .0) (length pcm) 0x80) ∙ cores-played pools memory (s .opening) opening-records)
+      ∙ ap (λ (m : List ℕ). played m last) unplayed
       ∙ sym (pcm-played memory 0 (s .opening) opening-records ordered)
       ∙ ap (λ (l : List Payload). played memory (writesOfAll l (s .opening))) (sym no-pools)
 
@@ -122,6 +126,11 @@ module _ (s : Stream) (within : Limits s) (master : s .version ≡ 1) (ordered :
   unfolding repacked
   repacked-within small =
       let count : length pools ≤ 53971 = pool-limit small in
+      let n = length pcm in
+      let cores = toCores (s .opening) in
+      let pcm-fine = pcm-pool-fits pcm (pcm-bytes (s .opening) opening-records) pcm-small in
+      let OpeningFits = OperationFits 2 [] pools in
+      let first = each-append OpeningFits (pcmFill n) cores (fill-fits pools n) (cores-fit pools (s .opening) opening-records) in
       record {
         first-version = lit≤ tt;
         last-version = lit≤ tt;
@@ -132,8 +141,8 @@ module _ (s : Stream) (within : Limits s) (master : s .version ≡ 1) (ordered :
         cards-fit = tt;
         pool-count = omega arith;
         pools-below = λ less. absurd (omega arith);
-        pools-fit = each-append (PoolFits 2) (pcmPools pcm) (map wavePool waves) (pcm-pool-fits pcm (pcm-bytes (s .opening) opening-records) pcm-small) (wave-pools-fit waves waves-fine);
-        opening-fits = each-append (OperationFits 2 [] pools) (pcmFill (length pcm) ++ toCores (s .opening)) (pcmCopy (length pcm)) (each-append (OperationFits 2 [] pools) (pcmFill (length pcm)) (toCores (s .opening)) (fill-fits pools (length pcm)) (cores-fit pools (s .opening) opening-records)) (copy-fits pcm (map wavePool waves) pcm-small);
+        pools-fit = each-append (PoolFits 2) (pcmPools pcm) (map wavePool waves) pcm-fine (wave-pools-fit waves waves-fine);
+        opening-fits = each-append OpeningFits (pcmFill n ++ cores) (pcmCopy n) first (copy-fits pcm (map wavePool waves) pcm-small);
         some-frame = rw length-map (within .some-frame);
         frames-fit = frames-fit (pcmPools pcm) waves (s .frames) frame-records known;
         total-size = small;
@@ -143,7 +152,8 @@ module _ (s : Stream) (within : Limits s) (master : s .version ≡ 1) (ordered :
   pub repacked-agrees : agree s (repacked s) ≡ true
   unfolding agree
   repacked-agrees =
-      agree-by (s .repeat) (repacked s .repeat) (coreWrites (openingWrites s)) (coreWrites (openingWrites (repacked s))) (imageOf s) (imageOf (repacked s)) (sameFrames (s .pools) (repacked s .pools) (s .frames) (repacked s .frames)) (unfold repacked in refl) opening-cores (image-same 1048576)
+      agree-by (s .repeat) (repacked s .repeat) (coreWrites (openingWrites s)) (coreWrites (openingWrites (repacked s))) (imageOf s) (imageOf (repacked s))
+      (sameFrames (s .pools) (repacked s .pools) (s .frames) (repacked s .frames)) (unfold repacked in refl) opening-cores (image-same 1048576)
       (unfold repacked in rw no-pools (frames-agree (pcmPools pcm) waves (s .frames) frame-records known))
 
 -- ---- from the master's file

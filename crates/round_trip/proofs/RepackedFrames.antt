@@ -1,5 +1,5 @@
 -- A repacked frame: its operations are within the limits, and make the master's writes.
-use Prim.Native.Nat.{ℕ, zero, suc, _+_, _-_, _≤_, _<_}
+use Prim.Native.Nat.{ℕ, zero, suc, _+_, _<_}
 use mathlib.Core.Path.{_≡_, refl, ap, _∙_}
 use mathlib.Core.Bool.{true}
 use mathlib.Core.List.{List, [], _∷_, _++_, map}
@@ -16,11 +16,12 @@ use Rattle.format.specs.Bytes.{part}
 use Rattle.format.specs.Compare.{sameFrames}
 use Rattle.format.specs.Limits.{Each, OperationFits, FrameFits}
 use Rattle.format.specs.Pool.{noPool, Payload}
-use Rattle.format.specs.Repack.{Piece, wave, single, pieces, isKnown, placeOf, packedPiece}
+use Rattle.format.specs.Repack.{Piece, wave, single, pieces, isKnown, placeOf, packedPiece, wavePool}
 use Rattle.format.specs.Target.{targetOf}
 use Rattle.format.specs.Writes.{upward, writesWith, writesOf, writesOfAll}
+use Rattle.format.proofs.Known.{known-place}
 use Rattle.format.proofs.Same.{writes-self}
-use Rattle.round_trip.proofs.Waves.{known-place, PieceKnown, PieceFits, pieceWrites, piecesWrites, pieces-are}
+use Rattle.round_trip.proofs.Waves.{PieceKnown, PieceFits, pieceWrites, piecesWrites, pieces-are}
 
 -- a record of the master, in the repacked file
 pub kept-fits : (pools : List Payload) (operation : Operation) → OperationFits 1 [] [] operation → OperationFits 2 [] pools operation
@@ -34,10 +35,6 @@ unfolding writesWith writesOf
 kept-writes pools (Write target a v) fits = refl
 kept-writes pools (Fill target a n v) fits = absurd (omega (arith, fits .pooled))
 kept-writes pools (Copy target a p q n) fits = absurd (omega (arith, fits .pooled))
-
--- the pool of a wave
-abbrev pub wavePool : List ℕ → Payload
-wavePool bytes = record { kind = 1; bytes = bytes }
 
 getD-wave : (waves : List (List ℕ)) (i : ℕ) → i < length waves → getD (map wavePool waves) i noPool ≡ wavePool (getD waves i [])
 getD-wave [] i h = absurd (not-suc-le-zero h)

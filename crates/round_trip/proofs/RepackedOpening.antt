@@ -14,13 +14,13 @@ use Rattle.format.specs.declared.operation.Operation.the-variants.{Write, Fill,
 use Rattle.format.specs.Compare.{coreWrites, played}
 use Rattle.format.specs.Limits.{Each, Bytes, OperationFits, PoolFits}
 use Rattle.format.specs.Pool.{Payload, bankLimit, kindWrong}
-use Rattle.format.specs.Repack.{value, toPcm, toCores, inOrder, pcmPools, pcmFill, pcmCopy}
+use Rattle.format.specs.Repack.{value, toPcm, toCores, inOrder, pcmPools, wavePool, pcmFill, pcmCopy}
 use Rattle.format.specs.Target.{targetOf}
 use Rattle.format.specs.Writes.{write, targetNumber, upward, writesWith, writesOf, writesOfAll}
 use Rattle.format.proofs.Checks.{and-true}
 use Rattle.format.proofs.Steps.{is-pcm, kind-fine}
 use Rattle.round_trip.proofs.Waves.{Records, WaveFits}
-use Rattle.round_trip.proofs.RepackedFrames.{kept-fits, wavePool}
+use Rattle.round_trip.proofs.RepackedFrames.{kept-fits}
 
 -- the PCM bytes, in order: no more than the memory holds
 pub pcm-count : (from : ℕ) (records : List Operation) → Records records → inOrder from (toPcm records) ≡ true → from ≤ 1048576
@@ -118,7 +118,9 @@ cores-core pools [] fits = refl
 cores-core pools (Write t a v ∷ records) fits = go (cores-core pools records (fits .1)) (eqb t 2) refl
   where
     go : coreWrites (writesOfAll pools (toCores records)) ≡ coreWrites (writesOfAll [] records)
-        → (b : Bool) → eqb t 2 ≡ b → coreWrites (writesOfAll pools (cond b (toCores records) (Write t a v ∷ toCores records))) ≡ cond (ltb t 2) (write t a v ∷ coreWrites (writesOfAll [] records)) (coreWrites (writesOfAll [] records))
+        → (b : Bool) → eqb t 2 ≡ b
+        → coreWrites (writesOfAll pools (cond b (toCores records) (Write t a v ∷ toCores records)))
+        ≡ cond (ltb t 2) (write t a v ∷ coreWrites (writesOfAll [] records)) (coreWrites (writesOfAll [] records))
     go more true e = rw (eqb-true t 2 e) more
     go more false e = rw more
 cores-core pools (Fill t a n v ∷ records) fits = absurd (omega (arith, fits .0 .pooled))

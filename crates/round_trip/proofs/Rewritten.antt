@@ -1,5 +1,5 @@
 -- An accepted file is the written form of the stream that it reads as, and that stream is within the limits.
-use Prim.Native.Nat.{ℕ, zero, suc, _+_, _*_, _≤_, _<_}
+use Prim.Native.Nat.{ℕ, zero, suc, _+_, _*_, _^_, _≤_, _<_}
 use mathlib.Core.Path.{_≡_, refl, sym, ap, _∙_, subst}
 use mathlib.Core.Logic.{_⊎_, inl, inr}
 use mathlib.Core.Bool.{Bool, true, false, cond, not, _||_, _&&_}
@@ -11,19 +11,21 @@ use lib.Dec.{eqb, ltb, lit≤}
 use lib.ListN.{length, drop}
 use lib.Seq.{drop-length}
 use Rattle.format.specs.declared.header.Header.{Header}
-use Rattle.format.specs.Bytes.{byte, be, bytesOfAll, u32}
+use Rattle.format.specs.Bytes.{Field, byte, be, bytesOfAll, u32}
 use Rattle.format.specs.Checked.{ok}
 use Rattle.format.specs.Header.{headerSize, plainHeader, pooledHeader, headerOf, reservedWrong, periodWrong, periodOf, cardCount}
 use Rattle.format.specs.Limits.{Limits}
 use Rattle.format.specs.Stream.{Stream, openingLimit, read}
-use Rattle.format.specs.Written.{cardsBytes, directoryBytes, payloadsBytes, operationsBytes, framesBytes, directoryPlace, payloadsPlace, openingPlace, framesPlace, endPlace, headerIn, pooledFields, headerFields, bodyBytes, written}
+use Rattle.format.specs.Written.{cardsBytes, directoryBytes, payloadsBytes, operationsBytes, framesBytes}
+use Rattle.format.specs.Written.{directoryPlace, payloadsPlace, openingPlace, framesPlace, endPlace, headerIn, pooledFields, headerFields, bodyBytes, written}
 use Rattle.format.proofs.Bytes.{AllBytes}
 use Rattle.format.proofs.Accepted.{Accepted, HeaderPassed, settingFor, opening-limit}
 use Rattle.format.proofs.Accepted as Inversion
 use Rattle.format.proofs.Checks.{or-false}
 use Rattle.round_trip.proofs.Items.{For}
 use Rattle.round_trip.proofs.Listed.{cards-taken, pools-taken}
-use Rattle.round_trip.proofs.Places.{Holds, fieldsSize, fields-size, Took, took-both, took-until, took-fields}
+use Rattle.format.proofs.Fields.{fieldsSize, fields-size}
+use Rattle.round_trip.proofs.Places.{Holds, Took, took-both, took-until, took-fields}
 use Rattle.round_trip.proofs.Tables.{entries-here}
 use Rattle.round_trip.proofs.Taken.{operations-taken, frames-taken}
 use Rattle.round_trip.proofs.Whole.{header-size}
@@ -55,9 +57,12 @@ repeat-taken zero h = refl
 repeat-taken (suc zero) h = refl
 repeat-taken (suc (suc n)) h = absurd (omega arith)
 
--- version 4's part of the header
+-- version 4's part of the header: card count and period, and the fields behind byte 39
+abbrev Late : List ℕ → (v cards period : ℕ) → List Field → Type 0
+Late file v cards period fields = (byte file 38 ≡ cards) × Holds file 0 40 fields × (cards ≤ 8) × (v < 4 → period ≡ 0) × (v < 4 → cards ≡ 0)
+
 late-taken : (file : List ℕ) (v : ℕ) → (b : Bool) → eqb v 4 ≡ b → cond b (ltb 8 (byte file 38) || not (eqb (be 4 file 44) 0)) (not (eqb (byte file 38) 0)) ≡ false
-    → (byte file 38 ≡ cond b (byte file 38) 0) × Holds file 0 40 (cond b (u32 (cond b (be 4 file 40) 0) ∷ u32 0 ∷ []) []) × (cond b (byte file 38) 0 ≤ 8) × (v < 4 → cond b (be 4 file 40) 0 ≡ 0) × (v < 4 → cond b (byte file 38) 0 ≡ 0)
+    → Late file v (cond b (byte file 38) 0) (cond b (be 4 file 40) 0) (cond b (u32 (cond b (be 4 file 40) 0) ∷ u32 0 ∷ []) [])
 late-taken file v true p e =
     let both = or-false (ltb 8 (byte file 38)) (not (eqb (be 4 file 44) 0)) e in
     let four : v ≡ 4 = eqb-true v 4 p in
@@ -137,16 +142,22 @@ from-parts file h given-stream bytes says acc =
     let directory : Took file (h .«directory_offset») payloads (directoryBytes 0 payloads (s .pools)) = rw (add-zero, zero-add) at (ps .entries) in
     let count : length (s .pools) ≡ h .«pool_count» = ps .counted in
     let lengths : h .«directory_offset» + h .«pool_count» * 16 + length (payloadsBytes (s .pools)) ≤ length file = omega (arith, ps .payloads .up-to, ps .payloads .inside) in
-    let entries = entries-here file (h .«directory_offset») 0 payloads (s .pools) (drop payloads file) (omega (arith, acc .pool-count)) (omega (arith, acc .small, acc .size)) (rw add-zero (directory .here)) in
-    let for : For (s .pools) (settingFor file h (s .cards)) = record {
+    let few : 0 + length (s .pools) ≤ 256 ^ 2 = omega (arith, acc .pool-count) in
+    let small : payloads + length (payloadsBytes (s .pools)) < 256 ^ 4 = omega (arith, acc .small, acc .size) in
+    let entries = entries-here file (h .«directory_offset») 0 payloads (s .pools) (drop payloads file) few small (rw add-zero (directory .here)) in
+    let setting = settingFor file h (s .cards) in
+    let for : For (s .pools) setting = record {
       count = sym count;
       cards-fit = cs .fit;
       few = omega (arith, acc .pool-count);
       pools-fit = ps .fit;
       entries = λ id k. rw zero-add at (entries id k);
     } in
-    let os = operations-taken (settingFor file h (s .cards)) (s .pools) for file bytes (says .low) (openingLimit h file) (h .«initial_count») (h .«initial_start») (s .opening, h .«frame_start») (omega (arith, acc .opening-first, acc .first-within)) (opening-limit h file (acc .first-within) .1) (acc .opening) in
-    let fs = frames-taken (settingFor file h (s .cards)) (s .pools) for file bytes (says .low) (h .«frame_count») (h .«frame_start») (s .frames, length file) (acc .first-within) (acc .frames) in
+    let limit = openingLimit h file in
+    let within : h .«initial_start» ≤ length file = omega (arith, acc .opening-first, acc .first-within) in
+    let most = opening-limit h file (acc .first-within) .1 in
+    let os = operations-taken setting (s .pools) for file bytes (says .low) limit (h .«initial_count») (h .«initial_start») (s .opening, h .«frame_start») within most (acc .opening) in
+    let fs = frames-taken setting (s .pools) for file bytes (says .low) (h .«frame_count») (h .«frame_start») (s .frames, length file) (acc .first-within) (acc .frames) in
     let place₁ : h .«directory_offset» ≡ directoryPlace s = omega (arith, acc .directory-here, cs .counted) in
     let place₂ : payloads ≡ payloadsPlace s = omega arith in
     let place₃ : h .«initial_start» ≡ openingPlace s = omega (arith, ps .payloads .up-to) in
@@ -167,9 +178,10 @@ from-parts file h given-stream bytes says acc =
     } in
     let fields = headerFields (headerIn s) in
     let header-long : fieldsSize fields ≡ headerSize v = sym (fields-size fields) ∙ header-size s (says .low) (says .high) in
-    let t₁ : Took file 0 (headerSize v) (bytesOfAll fields) = took-fields file 0 (headerSize v) fields bytes (omega arith) (says .room) (subst (λ (x : Header). Holds file 0 0 (headerFields x)) same (says .fields)) in
+    let numbers = subst (λ (x : Header). Holds file 0 0 (headerFields x)) same (says .fields) in
+    let t₁ : Took file 0 (headerSize v) (bytesOfAll fields) = took-fields file 0 (headerSize v) fields bytes (omega arith) (says .room) numbers in
     let t₂ : Took file (headerSize v) (h .«directory_offset») (cardsBytes (s .cards)) = took-until (sym (acc .directory-here)) (cs .took) in
-    let t₃ : Took file (h .«directory_offset») payloads (directoryBytes 0 (payloadsPlace s) (s .pools)) = subst (λ (k : ℕ). Took file (h .«directory_offset») payloads (directoryBytes 0 k (s .pools))) place₂ directory in
+    let t₃ = subst (λ (k : ℕ). Took file (h .«directory_offset») payloads (directoryBytes 0 k (s .pools))) place₂ directory in
     let t₄ : Took file payloads (h .«initial_start») (payloadsBytes (s .pools)) = ps .payloads in
     let t₅ : Took file (h .«initial_start») (h .«frame_start») (operationsBytes v (s .opening)) = os .took in
     let t₆ : Took file (h .«frame_start») (length file) (framesBytes v (s .frames)) = fs .took in

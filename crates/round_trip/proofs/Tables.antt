@@ -1,6 +1,6 @@
 -- Cards and pools that are written, read.
 use Prim.Native.Nat.{ℕ, zero, suc, _+_, _*_, _^_, _≤_, _<_}
-use mathlib.Core.Path.{_≡_, refl, _∙_}
+use mathlib.Core.Path.{_≡_, refl}
 use mathlib.Core.Bool.{false}
 use mathlib.Core.List.{List, [], _∷_, _++_, append-assoc}
 use native.Mathlib.Nat.{add-zero, add-assoc, le-of-suc-le-suc, not-suc-le-zero}
@@ -16,10 +16,10 @@ use Rattle.format.specs.Limits.{Each, CardFits, CardsFit, PoolFits}
 use Rattle.format.specs.Pool.{noPool, Payload, poolAt, poolWrong, poolsFrom}
 use Rattle.format.specs.Written.{cardFields, cardsBytes, entryFields, directoryBytes, payloadsBytes}
 use Rattle.format.proofs.Rules.{EntryFor}
-use Rattle.round_trip.proofs.Places.{Holds, fields-size, holds, behind, part-here}
-
-card-size : (card : CardRequirement) → length (card .id) ≡ 16 → length (bytesOfAll (cardFields card)) ≡ 32
-card-size card n = fields-size (cardFields card) ∙ omega arith
+use Rattle.format.proofs.Bytes.{behind, part-here}
+use Rattle.format.proofs.Fields.{fields-size}
+use Rattle.format.proofs.Written.{card-size}
+use Rattle.round_trip.proofs.Places.{Holds, Fit, holds}
 
 -- the card rules let a card within the limits pass
 card-passes : (file : List ℕ) (at least : ℕ) (card : CardRequirement) → CardFits least card → part file (at + 2) 2 ≡ 0 ∷ 0 ∷ [] → cardWrong file at least card ≡ false
@@ -53,7 +53,8 @@ cards-here file at least (card ∷ cards) rest fits here inside =
     let thirty : length mine ≡ 32 = card-size card (f .name-size) in
     let sum : length (mine ++ others) ≡ 32 + length others = simp (length-append, thirty) in
     let big : _<_ 0x2000000 (256 ^ 4) = lit< tt in
-    let h : Holds file at 0 (cardFields card) = holds file at 0 (cardFields card) (others ++ rest) (rw add-zero here′) (omega (arith, f .offset-range, f .bulk-range), (omega (arith, f .bulk-range), (omega (arith, f .bulk-range), tt))) in
+    let small : Fit (cardFields card) = (omega (arith, f .offset-range, f .bulk-range), (omega (arith, f .bulk-range), (omega (arith, f .bulk-range), tt))) in
+    let h : Holds file at 0 (cardFields card) = holds file at 0 (cardFields card) (others ++ rest) (rw add-zero here′) small in
     let slot : byte file at ≡ card .slot = rw add-zero at (h .0) in
     let name : part file (at + 16) 16 ≡ card .id = rw (f .name-size) at (h .1 .1 .1 .1 .1 .1 .0) in
     let same : cardAt file at ≡ card = rw (slot, h .1 .0, h .1 .1 .1 .0, h .1 .1 .1 .1 .0, h .1 .1 .1 .1 .1 .0, name) in
@@ -98,7 +99,9 @@ pools-here version file directory id start (pool ∷ pools) rest rest′ fits id
     let bytes : drop start file ≡ pool .bytes ++ (payloads ++ rest′) = rw append-assoc at here′ in
     let h : Holds file (directory + id * 16) 0 (entryFields id start pool) = entry-here file directory id start pool (others ++ rest) (omega arith) (omega arith) entry in
     let id-read : be 2 file (directory + id * 16) ≡ id = rw add-zero at (h .0) in
-    let more = pools-here version file directory (suc id) (start + n) pools rest rest′ (fits .1) (omega arith) (omega arith) (next-entry file directory id start pool (others ++ rest) entry) (behind file start (payloads ++ rest′) (pool .bytes) bytes) (omega arith) in
+    let entries = next-entry file directory id start pool (others ++ rest) entry in
+    let bytes′ = behind file start (payloads ++ rest′) (pool .bytes) bytes in
+    let more = pools-here version file directory (suc id) (start + n) pools rest rest′ (fits .1) (omega arith) (omega arith) entries bytes′ (omega arith) in
     rw (
       id-read,
       h .1 .0,
@@ -136,19 +139,5 @@ entries-here file directory id start (pool ∷ pools) rest ids small here (suc k
     let others = directoryBytes (suc id) (start + n) pools in
     let sum : length (pool .bytes ++ payloadsBytes pools) ≡ n + length (payloadsBytes pools) = length-append (pool .bytes) (payloadsBytes pools) in
     let place : id + suc k ≡ suc id + k = omega arith in
-    rw place (entries-here file directory (suc id) (start + n) pools rest (omega arith) (omega arith) (next-entry file directory id start pool (others ++ rest) (rw append-assoc at here)) k (le-of-suc-le-suc h))
-
--- how long the tables are
-pub cards-size : (least : ℕ) (cards : List CardRequirement) → CardsFit least cards → length (cardsBytes cards) ≡ length cards * 32
-unfolding cardsBytes
-cards-size least [] fits = refl
-cards-size least (card ∷ cards) fits = simp (length-append, card-size card (fits .0 .name-size), cards-size (card .slot + 1) cards (fits .1)) (omega arith)
-
-pub directory-size : (id start : ℕ) (pools : List Payload) → length (directoryBytes id start pools) ≡ length pools * 16
-unfolding directoryBytes
-directory-size id start [] = refl
-directory-size id start (pool ∷ pools) = simp (
-  length-append,
-  fields-size (entryFields id start pool),
-  directory-size (suc id) (start + length (pool .bytes)) pools,
-) (omega arith)
+    let entries = next-entry file directory id start pool (others ++ rest) (rw append-assoc at here) in
+    rw place (entries-here file directory (suc id) (start + n) pools rest (omega arith) (omega arith) entries k (le-of-suc-le-suc h))

@@ -23,36 +23,47 @@ use Rattle.format.proofs.Bytes.{AllBytes, be-below}
 use Rattle.format.proofs.Checks.{passed-test, passed-last, given}
 use Rattle.format.proofs.Steps.{record-is, operation-is, operation-step, frame-step}
 use Rattle.round_trip.proofs.Items.{For}
-use Rattle.round_trip.proofs.Places.{Holds, fieldsSize, Took, took-none, took-both, took-fields}
+use Rattle.round_trip.proofs.Places.{Holds, Took, took-none, took-both, took-fields}
+use Rattle.format.proofs.Fields.{fieldsSize}
 use Rattle.format.proofs.Rules.{passes-inside, passes-takes, copy-allowed}
 use Rattle.format.proofs.Sizes.{extras, size-is, width-range}
 
 module _ (setting : Setting) (pools : List Payload) (for : For pools setting) (file : List ℕ) (bytes : AllBytes file) where
   -- rules 15 to 19, for the operation that is read at a place
-  write-within : (at target address value : ℕ) → value < 256 → allowed setting at (Write target address value) ≡ ok tt → OperationFits (setting .version) (setting .cards) pools (Write target address value)
+  write-within : (at target address value : ℕ) → value < 256 → allowed setting at (Write target address value) ≡ ok tt
+      → OperationFits (setting .version) (setting .cards) pools (Write target address value)
   unfolding allowed writeRules
   write-within at target address value byte′ e =
       let what = targetOf (setting .version) (setting .cards) target in
       let first = passed-test 15 at (missing what) e in
       record { exists = first .0; within = ltb-false (writeLimit what) address (passed-last 16 at (ltb (writeLimit what) address) (first .1)); value-byte = byte′ }
 
-  fill-within : (at target address size value : ℕ) → 2 ≤ setting .version → value < 256 → allowed setting at (Fill target address size value) ≡ ok tt → OperationFits (setting .version) (setting .cards) pools (Fill target address size value)
+  fill-within : (at target address size value : ℕ) → 2 ≤ setting .version → value < 256 → allowed setting at (Fill target address size value) ≡ ok tt
+      → OperationFits (setting .version) (setting .cards) pools (Fill target address size value)
   unfolding allowed fillRules
   fill-within at target address size value pooled byte′ e =
       let what = targetOf (setting .version) (setting .cards) target in
       let first = passed-test 15 at (missing what) e in
       record { pooled = pooled; exists = first .0; inside = passes-inside what address size (passed-last 17 at (outside what address size) (first .1)); value-byte = byte′ }
 
-  copy-within : (at target address id source size : ℕ) → 2 ≤ setting .version → allowed setting at (Copy target address id source size) ≡ ok tt → OperationFits (setting .version) (setting .cards) pools (Copy target address id source size)
+  copy-within : (at target address id source size : ℕ) → 2 ≤ setting .version → allowed setting at (Copy target address id source size) ≡ ok tt
+      → OperationFits (setting .version) (setting .cards) pools (Copy target address id source size)
   unfolding allowed
   copy-within at target address id source size pooled e =
       let what = targetOf (setting .version) (setting .cards) target in
       let rules = copy-allowed at (setting .version) (setting .pools) what address id (setting .poolOf id) source size e in
       let known : id < length pools = rw (for .count) at (rules .known) in
-      record { pooled = pooled; exists = rules .exists; inside = passes-inside what address size (rules .inside); known = known; takes = passes-takes what (getD pools id noPool) (setting .poolOf id) address source size (for .entries id known) (rules .right) }
+      record {
+        pooled = pooled;
+        exists = rules .exists;
+        inside = passes-inside what address size (rules .inside);
+        known = known;
+        takes = passes-takes what (getD pools id noPool) (setting .poolOf id) address source size (for .entries id known) (rules .right);
+      }
 
   -- the operation whose fields stand at a place is within the limits
-  fields-within : (at opcode : ℕ) → 2 ≤ setting .version → allowed setting at (fieldsAt file (addressWidth (setting .version)) at opcode) ≡ ok tt → OperationFits (setting .version) (setting .cards) pools (fieldsAt file (addressWidth (setting .version)) at opcode)
+  fields-within : (at opcode : ℕ) → 2 ≤ setting .version → allowed setting at (fieldsAt file (addressWidth (setting .version)) at opcode) ≡ ok tt
+      → OperationFits (setting .version) (setting .cards) pools (fieldsAt file (addressWidth (setting .version)) at opcode)
   unfolding fieldsAt
   fields-within at zero pooled e = write-within at _ _ _ (bytes (at + 2 + addressWidth (setting .version))) e
   fields-within at (suc zero) pooled e = fill-within at _ _ _ _ pooled (bytes (at + 6 + addressWidth (setting .version))) e

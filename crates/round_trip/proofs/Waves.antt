@@ -1,76 +1,29 @@
 -- The waves of a repacked master: which there are, and where each is found.
 use Prim.Native.Nat.{ℕ, zero, suc, _%_, _≤_, _<_}
 use mathlib.Core.Path.{_≡_, refl, sym, ap, _∙_}
-use mathlib.Core.Bool.{Bool, true, false, cond, _||_, _&&_, false≢true, or-true}
-use mathlib.Core.List.{List, [], _∷_, _++_, map, append-assoc}
+use mathlib.Core.Bool.{Bool, true, false, cond, _&&_, false≢true}
+use mathlib.Core.List.{List, [], _∷_, _++_, map}
 use native.Mathlib.Numerals.{add-one}
 use native.Mathlib.Omega.{arith}
 use borrow.Author.Tests.{eqb-true, ltb-true}
 use lib.Dec.{eqb, ltb, lit≤}
-use lib.ListN.{length, getD, take, drop, take-append-drop}
+use lib.ListN.{length, take, drop, take-append-drop}
 use Rattle.format.specs.declared.operation.Operation.{Operation}
 use Rattle.format.specs.declared.operation.Operation.the-variants.{Write, Fill, Copy}
 use Rattle.format.specs.declared.operation.WriteRecord.{WriteRecord}
-use Rattle.format.specs.Bytes.{sameBytes}
 use Rattle.format.specs.Limits.{Each, Bytes, OperationFits}
-use Rattle.format.specs.Pool.{Payload}
-use Rattle.format.specs.Repack.{Piece, wave, single, address, value, runs, startsWave, pieces, isKnown, distinct, wavesOf, placeOf}
+use Rattle.format.specs.Repack.{Piece, wave, single, address, value, runs, startsWave, pieces, isKnown, added, distinct, wavesOf}
 use Rattle.format.specs.Writes.{write, targetNumber, upward, writesWith, writesOf, writesOfAll}
 use Rattle.round_trip.proofs.Each.{each-map, each-append}
 use Rattle.format.proofs.Checks.{and-true}
-use Rattle.format.proofs.Same.{same-bytes, bytes-self}
+use Rattle.format.proofs.Known.{added-has, added-keeps}
+use Rattle.format.proofs.Writes.{writes-append}
 
 -- the records of a master
 abbrev pub Records : List Operation → Type 0
 Records records = Each (OperationFits 1 [] []) records
 
--- a wave that is known has a place
-pub known-place : (waves : List (List ℕ)) (bytes : List ℕ) → isKnown waves bytes ≡ true
-    → (placeOf waves bytes < length waves) × (getD waves (placeOf waves bytes) [] ≡ bytes)
-unfolding isKnown placeOf
-known-place [] bytes e = absurd (false≢true e)
-known-place (w ∷ waves) bytes e = go (known-place waves bytes) (sameBytes w bytes) refl e
-  where
-    go : (isKnown waves bytes ≡ true → (placeOf waves bytes < length waves) × (getD waves (placeOf waves bytes) [] ≡ bytes)) → (b : Bool)
-        → sameBytes w bytes ≡ b → (b || isKnown waves bytes) ≡ true
-        → (cond b 0 (suc (placeOf waves bytes)) < suc (length waves)) × (getD (w ∷ waves) (cond b 0 (suc (placeOf waves bytes))) [] ≡ bytes)
-    go more true p k = (omega arith, same-bytes w bytes p)
-    go more false p k = (omega (arith, more k .0), more k .1)
-
 -- ---- a wave stays known
-
-known-added : (known : List (List ℕ)) (bytes : List ℕ) → isKnown (known ++ (bytes ∷ [])) bytes ≡ true
-unfolding isKnown
-known-added [] bytes = rw bytes-self
-known-added (w ∷ known) bytes = rw (known-added known bytes) (or-true (sameBytes w bytes))
-
-known-kept : (known more : List (List ℕ)) (bytes : List ℕ) → isKnown known bytes ≡ true → isKnown (known ++ more) bytes ≡ true
-unfolding isKnown
-known-kept [] more bytes e = absurd (false≢true e)
-known-kept (w ∷ known) more bytes e = go (known-kept known more bytes) (sameBytes w bytes) e
-  where
-    go : (isKnown known bytes ≡ true → isKnown (known ++ more) bytes ≡ true) → (b : Bool) → (b || isKnown known bytes) ≡ true
-        → (b || isKnown (known ++ more) bytes) ≡ true
-    go kept true e′ = refl
-    go kept false e′ = kept e′
-
--- what `distinct` goes on with
-abbrev added : (known : List (List ℕ)) → (bytes : List ℕ) → List (List ℕ)
-added known bytes = cond (isKnown known bytes) known (known ++ (bytes ∷ []))
-
-added-keeps : (known : List (List ℕ)) (bytes other : List ℕ) → isKnown known other ≡ true → isKnown (added known bytes) other ≡ true
-added-keeps known bytes other e = go (isKnown known bytes)
-  where
-    go : (b : Bool) → isKnown (cond b known (known ++ (bytes ∷ []))) other ≡ true
-    go true = e
-    go false = known-kept known (bytes ∷ []) other e
-
-added-knows : (known : List (List ℕ)) (bytes : List ℕ) → isKnown (added known bytes) bytes ≡ true
-added-knows known bytes = go (isKnown known bytes) refl
-  where
-    go : (b : Bool) → isKnown known bytes ≡ b → isKnown (cond b known (known ++ (bytes ∷ []))) bytes ≡ true
-    go true e = e
-    go false e = known-added known bytes
 
 distinct-keeps : (known : List (List ℕ)) (ps : List Piece) (bytes : List ℕ) → isKnown known bytes ≡ true → isKnown (distinct known ps) bytes ≡ true
 unfolding distinct
@@ -92,7 +45,7 @@ distinct-knows : (known : List (List ℕ)) (ps : List Piece) → Each (PieceKnow
 unfolding distinct
 distinct-knows known [] = tt
 distinct-knows known (single operation ∷ ps) = (tt, distinct-knows known ps)
-distinct-knows known (wave target a w ∷ ps) = (distinct-keeps (added known w) ps w (added-knows known w), distinct-knows (added known w) ps)
+distinct-knows known (wave target a w ∷ ps) = (distinct-keeps (added known w) ps w (added-has known w), distinct-knows (added known w) ps)
 
 pieces-keep : (waves : List (List ℕ)) (frames : List (List Operation)) (p : Piece) → PieceKnown waves p → PieceKnown (wavesOf waves frames) p
 pieces-keep waves frames (single operation) k = tt
@@ -108,16 +61,20 @@ all-known known (frame ∷ frames) =
 
 -- ---- the records of a wave
 
+-- so many values are bytes, and written upward they are what these records write
+abbrev Run : (count target from : ℕ) → (values : List ℕ) → (written : List WriteRecord) → Type 0
+Run count target from values written = (length values ≡ count) × Bytes values × (upward target from values ≡ written)
+
 run-writes : (count target from : ℕ) (records : List Operation) → Records records → runs count target from records ≡ true
-    → (length (map value (take count records)) ≡ count) × Bytes (map value (take count records)) × (upward target from (map value (take count records)) ≡ writesOfAll [] (take count records))
+    → Run count target from (map value (take count records)) (writesOfAll [] (take count records))
 unfolding runs upward writesWith writesOf writesOfAll
 run-writes zero target from records fits e = (refl, tt, refl)
 run-writes (suc count) target from [] fits e = absurd (false≢true e)
 run-writes (suc count) target from (Write t a v ∷ records) fits e = go (run-writes count target (suc from) records (fits .1)) (eqb t target && eqb a from) refl e
   where
-    go : (runs count target (suc from) records ≡ true → (length (map value (take count records)) ≡ count) × Bytes (map value (take count records)) × (upward target (suc from) (map value (take count records)) ≡ writesOfAll [] (take count records)))
+    go : (runs count target (suc from) records ≡ true → Run count target (suc from) (map value (take count records)) (writesOfAll [] (take count records)))
         → (b : Bool) → (eqb t target && eqb a from) ≡ b → elim b as (λ (x : Bool). Bool) [ true ↦ runs count target (suc from) records | false ↦ false ] ≡ true
-        → (suc (length (map value (take count records))) ≡ suc count) × ((v < 256) × Bytes (map value (take count records))) × (upward target from (v ∷ map value (take count records)) ≡ writesOf [] (Write t a v) ++ writesOfAll [] (take count records))
+        → Run (suc count) target from (v ∷ map value (take count records)) (writesOf [] (Write t a v) ++ writesOfAll [] (take count records))
     go more true p e′ =
         let m = more e′ in
         let both = and-true (eqb t target) (eqb a from) p in
@@ -151,11 +108,6 @@ unfoldable pub piecesWrites : List Piece → List WriteRecord
 piecesWrites [] = []
 piecesWrites (p ∷ ps) = pieceWrites p ++ piecesWrites ps
 
-pub writes-append : (pools : List Payload) (a b : List Operation) → writesOfAll pools (a ++ b) ≡ writesOfAll pools a ++ writesOfAll pools b
-unfolding writesOfAll
-writes-append pools [] b = refl
-writes-append pools (o ∷ a) b = rw (writes-append pools a b, append-assoc)
-
 -- the pieces fit, are no more than the records, and write what the records write
 pub pieces-are : (skip : ℕ) (records : List Operation) → Records records
     → Each PieceFits (pieces skip records) × (length (pieces skip records) ≤ length records) × (piecesWrites (pieces skip records) ≡ writesOfAll [] (drop skip records))
@@ -184,7 +136,7 @@ pieces-are zero (record′ ∷ records) fits = go (pieces-are 0 records (fits .1
     go next rest true e =
         let s = starts record′ records e in
         let r = run-writes 256 (targetNumber record′) (address record′) (record′ ∷ records) fits (s .3) in
-        let joined : writesOfAll [] (take 256 all) ++ writesOfAll [] (drop 255 records) ≡ writesOfAll [] all = sym (writes-append [] (take 256 all) (drop 255 records)) ∙ ap (writesOfAll []) (take-append-drop 256 all) in
+        let joined = sym (writes-append [] (take 256 all) (drop 255 records)) ∙ ap (writesOfAll []) (take-append-drop 256 all) in
         (((s .0, s .1, s .2, r .0, r .1), rest .0), omega (arith, rest .1), (λ i. r .2 i ++ rest .2 i) ∙ joined)
     go next rest false e = ((fits .0, next .0), omega (arith, next .1), unfold writesOfAll in ap (λ (l : List WriteRecord). writesOf [] record′ ++ l) (next .2))
 
@@ -194,7 +146,7 @@ abbrev pub WaveFits : List ℕ → Type 0
 WaveFits bytes = (length bytes ≡ 256) × Bytes bytes
 
 distinct-fit : (known : List (List ℕ)) (ps : List Piece) → Each WaveFits known → Each PieceFits ps → Each WaveFits (distinct known ps)
-unfolding distinct
+unfolding distinct added
 distinct-fit known [] h fits = h
 distinct-fit known (single operation ∷ ps) h fits = distinct-fit known ps h (fits .1)
 distinct-fit known (wave target a w ∷ ps) h fits = distinct-fit (added known w) ps (go (isKnown known w)) (fits .1)

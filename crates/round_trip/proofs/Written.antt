@@ -18,7 +18,8 @@ use Rattle.format.specs.Operation.{addressWidth}
 use Rattle.format.specs.Pool.{Payload, kindWrong}
 use Rattle.format.specs.Stream.{Stream}
 use Rattle.format.specs.Target.{slotOf, slotTarget, targetOf, missing}
-use Rattle.format.specs.Written.{operationFields, withoutFirst, itemBytes, operationsBytes, framesBytes, cardFields, cardsBytes, entryFields, directoryBytes, payloadsBytes, payloadsPlace, headerIn, plainFields, pooledFields, headerFields, bodyBytes, written}
+use Rattle.format.specs.Written.{operationFields, withoutFirst, itemBytes, operationsBytes, framesBytes, cardFields, cardsBytes, entryFields, directoryBytes, payloadsBytes, payloadsPlace}
+use Rattle.format.specs.Written.{headerIn, plainFields, pooledFields, headerFields, bodyBytes, written}
 use Rattle.round_trip.proofs.Each.{each-append, all-bytes}
 use Rattle.format.proofs.Bytes.{AllBytes}
 use Rattle.format.proofs.Steps.{KindIs, is-wave, is-pcm, is-bank, kind-is}
@@ -52,7 +53,8 @@ target-small version cards target =
     go (ltb target 2) (eqb target 2) (eqb version 3) (eqb target 3) (eqb version 4) (leb target 10) (eqb target 11) refl refl refl refl refl
   where
     go : (core pcm three bank four slot synth : Bool) → ltb target 2 ≡ core → eqb target 2 ≡ pcm → eqb target 3 ≡ bank → leb target 10 ≡ slot → eqb target 11 ≡ synth
-        → missing (cond core Core (cond pcm Pcm (cond three (cond bank Bank Missing) (cond four (cond slot (slotTarget cards (slotOf target)) (cond synth Si22 Missing)) Missing)))) ≡ false → target < 256
+        → missing (cond core Core (cond pcm Pcm (cond three (cond bank Bank Missing) (cond four (cond slot (slotTarget cards (slotOf target)) (cond synth Si22 Missing)) Missing)))) ≡ false
+        → target < 256
     go true pcm three bank four slot synth a b c d f e = omega (arith, ltb-true target 2 a)
     go false true three bank four slot synth a b c d f e = omega (arith, eqb-true target 2 b)
     go false false true true four slot synth a b c d f e = omega (arith, eqb-true target 3 c)
@@ -101,7 +103,8 @@ unfolding cardsBytes
 cards-bytes least [] fits = tt
 cards-bytes least (card ∷ cards) fits =
     let f = fits .0 in
-    each-append IsByte (bytesOfAll (cardFields card)) (cardsBytes cards) (fields-bytes (cardFields card) (omega (arith, f .slot-range), (omega (arith, f .name-range), ((lit< tt, (lit< tt, tt)), (f .name-bytes, tt))))) (cards-bytes (card .slot + 1) cards (fits .1))
+    let mine = fields-bytes (cardFields card) (omega (arith, f .slot-range), (omega (arith, f .name-range), ((lit< tt, (lit< tt, tt)), (f .name-bytes, tt)))) in
+    each-append IsByte (bytesOfAll (cardFields card)) (cardsBytes cards) mine (cards-bytes (card .slot + 1) cards (fits .1))
 
 -- a kind is 1, 2 or 3
 kind-small : (version kind size : ℕ) → kindWrong version kind size ≡ false → kind < 256

@@ -6,6 +6,7 @@ use lib.Dec.{ltb}
 use Rattle.format.specs.declared.operation.WriteRecord.{WriteRecord}
 use Rattle.format.specs.Bytes.{byte, be}
 use Rattle.format.specs.Compare.{sameWrite, sameWrites, coreWrites}
+use Rattle.format.specs.Size.{recordSize, countSize}
 use Rattle.format.specs.Writes.{write}
 use Rattle.spans.specs.declared.Segment.{Segment}
 use Rattle.same.specs.declared.run.Run.{Run}
@@ -27,11 +28,11 @@ unfoldable pub matched : (all : Bool) → (master other : List ℕ) → (left at
 matched all master other left at target address source step zero = run.Behind at left
 matched all master other zero at target address source step (suc count) = run.Differs
 matched all master other (suc left) at target address source step (suc count) =
-    cond (keeps all (byte master at))
+    cond (keeps all (recordWrite master at .target))
     (cond (sameWrite (recordWrite master at) (write target address (byte other source)))
-    (matched all master other left (at + 5) target (address + 1) (source + step) step count)
+    (matched all master other left (at + recordSize) target (address + 1) (source + step) step count)
     run.Differs)
-    (matched all master other left (at + 5) target address source step (suc count))
+    (matched all master other left (at + recordSize) target address source step (suc count))
 
 abbrev pub matchedSegment : (all : Bool) → (master other : List ℕ) → (left at : ℕ) → Segment → Run
 matchedSegment all master other left at segment =
@@ -60,5 +61,5 @@ behind run.Differs next none = none
 unfoldable pub sameFramesAt : (master other : List ℕ) → (directory count at from : ℕ) → Bool
 sameFramesAt master other directory zero at from = true
 sameFramesAt master other directory (suc count) at from =
-    samePart true master other directory (be 2 master at) (at + 2) (be 2 other from) (from + 2)
-    && sameFramesAt master other directory count (at + 2 + be 2 master at * 5) (operationsStop other directory (be 2 other from) (from + 2))
+    samePart true master other directory (be 2 master at) (at + countSize) (be 2 other from) (from + countSize)
+    && sameFramesAt master other directory count (at + countSize + be 2 master at * recordSize) (operationsStop other directory (be 2 other from) (from + countSize))

@@ -2,6 +2,8 @@
 use crate::part::PartMatch;
 use crate::part::same_part;
 use big_endian::read_u16;
+use format::COUNT_SIZE;
+use format::RECORD_SIZE;
 ghost use mathlib.Core.Path.{_≡_};
 ghost use Rattle.same.specs.Match.{sameFramesAt};
 
@@ -24,12 +26,12 @@ pub fn same_frames(
         let operations = read_u16(other, from);
         match same_part(
             master,
-            at + 2,
+            at + COUNT_SIZE,
             records as u32,
             true,
             other,
             directory,
-            from + 2,
+            from + COUNT_SIZE,
             operations as u32,
         ) {
             PartMatch::Same(next) => {
@@ -39,7 +41,7 @@ pub fn same_frames(
                 return false;
             }
         }
-        at += 2 + records as usize * 5;
+        at += COUNT_SIZE + records as usize * RECORD_SIZE;
         left -= 1;
     }
     true

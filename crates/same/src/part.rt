@@ -2,13 +2,17 @@
 use crate::run::Run;
 use crate::run::is_kept;
 use crate::run::same_operation;
-use big_endian::byte_at;
+use big_endian::item_bytes;
+use fields::decode_record;
+use format::MASTER_HEADER_SIZE;
+use format::RECORD_SIZE;
 use spans::segment_at;
 ghost use mathlib.Core.Path.{_≡_};
 ghost use mathlib.Core.Bool.{false};
 ghost use mathlib.Core.List.{[]};
 ghost use Prim.Native.Nat.{_≤_};
 ghost use Rattle.format.specs.Compare.{sameWrites};
+ghost use Rattle.format.specs.Size.{masterHeaderSize};
 ghost use Rattle.spans.specs.Segments.{recordWrites};
 ghost use Rattle.same.specs.Match.{kept, samePart, matchedPart};
 
@@ -26,10 +30,11 @@ fn none_kept(master: &[u8], start: usize, records: u32, all: bool) -> bool
     let mut at = start;
     let mut left = records;
     while 0 < left {
-        if is_kept(all, byte_at(master, at)) {
+        let item = decode_record(item_bytes(master, at));
+        if is_kept(all, item.target) {
             return false;
         }
-        at += 5;
+        at += RECORD_SIZE;
         left -= 1;
     }
     true
@@ -86,12 +91,12 @@ pub fn same_opening(
     other_start: u32,
     operations: u32,
 ) -> bool
-    ensures { λ r. ⌜ r ≡ samePart false (now (master .entry)) (now (other .entry)) directory records 20 operations «other_start» ⌝ }
+    ensures { λ r. ⌜ r ≡ samePart false (now (master .entry)) (now (other .entry)) directory records masterHeaderSize operations «other_start» ⌝ }
 {
     let from = other_start as usize;
     match same_part(
         master,
-        20,
+        MASTER_HEADER_SIZE,
         records,
         false,
         other,

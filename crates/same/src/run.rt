@@ -1,13 +1,16 @@
 // A master's records against the writes of one operation.
 use big_endian::byte_at;
-use big_endian::read_u24;
+use big_endian::item_bytes;
+use fields::Decoded;
+use fields::decode_record;
+use format::RECORD_SIZE;
 use spans::Segment;
 use spans::step_of;
 ghost use mathlib.Core.Path.{_≡_};
 ghost use Prim.Native.Nat.{_≤_};
 ghost use Rattle.format.specs.Compare.{sameWrite};
 ghost use Rattle.format.specs.Writes.{write};
-ghost use Rattle.spans.specs.Segments.{recordWrite};
+ghost use Rattle.spans.specs.Segments.{writeBy};
 ghost use Rattle.same.specs.Match.{keeps, matchedSegment, matchedOperation};
 
 // The records behind those that agree, or that one differs.
@@ -26,18 +29,17 @@ pub fn is_kept(all: bool, target: u8) -> bool
     target < 2
 }
 
-// Whether the record at a place is a write.
-fn same_record(master: &[u8], at: usize, target: u8, address: usize, value: u8) -> bool
-    requires { ⌜ at ≤ 0x2000000000000000 ⌝ }
-    ensures { λ r. ⌜ r ≡ sameWrite (recordWrite (now (master .entry)) at) (write target address value) ⌝ }
+// Whether a record is a write.
+fn same_record(item: Decoded, target: u8, address: usize, value: u8) -> bool
+    ensures { λ r. ⌜ r ≡ sameWrite (writeBy item) (write target address value) ⌝ }
 {
-    if byte_at(master, at) != target {
+    if item.target != target {
         return false;
     }
-    if read_u24(master, at + 1) as usize != address {
+    if item.address as usize != address {
         return false;
     }
-    byte_at(master, at + 4) == value
+    item.value == value
 }
 
 // So many records from a place against a segment.
@@ -62,19 +64,20 @@ fn same_segment(
         if left == 0 {
             return Run::Differs;
         }
-        if is_kept(all, byte_at(master, at)) {
+        let item = decode_record(item_bytes(master, at));
+        if is_kept(all, item.target) {
             let value = byte_at(other, source);
-            if same_record(master, at, segment.target, address, value) {
+            if same_record(item, segment.target, address, value) {
                 count -= 1;
                 address += 1;
                 source += step;
-                at += 5;
+                at += RECORD_SIZE;
                 left -= 1;
             } else {
                 return Run::Differs;
             }
         } else {
-            at += 5;
+            at += RECORD_SIZE;
             left -= 1;
         }
     }

@@ -39,7 +39,9 @@ module _ (setting : Setting) (file : List ℕ) (limit at : ℕ) (item : Item) (w
       go true e = record-decoded e
       go false e = operation-decoded e
 
-pub turns : (file : List ℕ) (state : StreamPlayer) (limit : ℕ) (place : Place) (item : Item) → limit ≤ length file → place .closing ≡ false → itemAt (settingIn state file) file limit (place .cursor) ≡ ok item → turn file state place ≡ operationTurn file (state .header .«directory_offset») place (item .operation) (item .next)
+pub turns : (file : List ℕ) (state : StreamPlayer) (limit : ℕ) (place : Place) (item : Item) → limit ≤ length file → place .closing ≡ false
+    → itemAt (settingIn state file) file limit (place .cursor) ≡ ok item
+    → turn file state place ≡ operationTurn file (state .header .«directory_offset») place (item .operation) (item .next)
 unfolding turn
 turns file state limit place item within plays e =
     cond-false (place .closing) _ _ plays ∙ ap (turnOf file (state .header .«directory_offset») place) (item-decoded (settingIn state file) file limit (place .cursor) item within e)

@@ -1,15 +1,18 @@
 -- The writes of an item as numbers alone. The code goes by these, so that a WRITE and a FILL are read without a branch between them.
-use Prim.Native.Nat.{ℕ, _+_, _*_, _-_}
+use Prim.Native.Nat.{ℕ, _+_, _-_}
 use mathlib.Core.Bool.{Bool, true, false, cond, not, _||_}
 use mathlib.Core.List.{List}
-use lib.Dec.{eqb, leb, ltb}
+use lib.Dec.{leb, ltb}
 use lib.ListN.{length}
 use Rattle.format.specs.declared.operation.Operation.{Operation}
 use Rattle.format.specs.declared.operation.Operation.the-variants.{Write, Fill, Copy}
-use Rattle.format.specs.Bytes.{byte, be}
+use Rattle.format.specs.Bytes.{part}
 use Rattle.format.specs.Checked.{Checked, ok, refused}
 use Rattle.format.specs.Operation.{Item}
 use Rattle.format.specs.Pool.{poolAt}
+use Rattle.format.specs.Size.{recordSize, operationMost}
+use Rattle.fields.specs.declared.decode.Decoded.{Decoded}
+use Rattle.fields.specs.Decoded.{decodedRecord, operationOf}
 use Rattle.writes.specs.declared.Segment.{Segment}
 use Rattle.segments.specs.declared.place.Place.{Place}
 use Rattle.segments.specs.declared.place.Turn.{Turn}
@@ -44,21 +47,17 @@ spanFrom file directory (refused number at) = noSpan
 -- THE READS OF THE CODE
 
 -- a record of version 1 at a place, and where it passes the file's end none
-abbrev pub recordIn : List ℕ → (at : ℕ) → Span
-recordIn file at = valueSpan (byte file at) (be 3 file (at + 1)) 1 (byte file (at + 4)) (at + 5)
-
 abbrev pub recordRead : List ℕ → (at : ℕ) → Span
-recordRead file at = cond (ltb (length file) (at + 5)) noSpan (recordIn file at)
+recordRead file at = cond (ltb (length file) (at + recordSize)) noSpan (spanOf file 0 (operationOf (decodedRecord (part file at operationMost))) (at + recordSize))
 
--- a WRITE, with the opcode 0, or a FILL, with 1, at a place, in bytes that begin with it
-abbrev pub valueIn : List ℕ → (width opcode at : ℕ) → Span
-valueIn bytes width opcode at =
-    valueSpan (byte bytes 1) (be width bytes 2) (cond (eqb opcode 0) 1 (be 4 bytes (2 + width))) (byte bytes (2 + width + 4 * opcode)) (at + (3 + width + 4 * opcode))
+-- a WRITE or a FILL at a place
+abbrev pub valueIn : Decoded → (at : ℕ) → Span
+valueIn item at = valueSpan (item .target) (item .address) (item .length) (item .value) (at + item .size)
 
 -- and a COPY
-abbrev pub copyIn : List ℕ → (directory : ℕ) → List ℕ → (width at : ℕ) → Span
-copyIn file directory bytes width at =
-    copySpan file directory (byte bytes 1) (be width bytes 2) (be 2 bytes (2 + width)) (be 4 bytes (4 + width)) (be 4 bytes (8 + width)) (at + (12 + width))
+abbrev pub copyIn : List ℕ → (directory : ℕ) → Decoded → (at : ℕ) → Span
+copyIn file directory item at =
+    copySpan file directory (item .target) (item .address) (item .pool) (item .source) (item .length) (at + item .size)
 
 -- THE TURN
 

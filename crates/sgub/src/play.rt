@@ -4,12 +4,10 @@ use format::Verdict;
 use format::WriteRecord;
 use player::Vsync;
 ghost use mathlib.Core.Path.{_≡_};
-ghost use lib.ListN.{length};
-ghost use Rattle.format.specs.Player.{call, runAfter};
 ghost use Rattle.format.specs.State.{started};
 ghost use Rattle.format.specs.Stream.{read};
 ghost use Rattle.start.specs.Start.{verdictOn};
-ghost use Rattle.player.specs.Vsync.{vsyncOf, stateAfter};
+ghost use Rattle.player.specs.Vsync.{Advanced};
 ghost use Rattle.sgub.specs.Play.{startFields};
 
 // The verdict on a file, and the player's state; that of a refused file is finished.
@@ -51,9 +49,7 @@ pub extern "C" fn sgub_advance_vsync(
     file: &[u8],
     run: &mut [WriteRecord],
 ) -> Vsync
-    ensures { λ r. ⌜ (r ≡ vsyncOf (call (now (player .entry)) (now (file .entry)) (length (now (run .entry)))))
-        × (now (player .exit) ≡ stateAfter (now (player .entry)) (call (now (player .entry)) (now (file .entry)) (length (now (run .entry)))))
-        × (now (run .exit) ≡ runAfter (now (run .entry)) (call (now (player .entry)) (now (file .entry)) (length (now (run .entry))))) ⌝ }
+    ensures { λ r. ⌜ Advanced (now (player .entry)) (now (file .entry)) (now (run .entry)) r (now (player .exit)) (now (run .exit)) ⌝ }
 {
     player::advance_vsync(player, file, run)
 }

@@ -1,13 +1,17 @@
 -- The writes of a master's records and of a version 2 file's operations, at their places in the file and without the rules: what an
 -- accepted file's lists come to. The values of a segment stand in the file: one byte for all of them, or as many in a row.
-use Prim.Native.Nat.{ℕ, zero, suc, _+_}
-use mathlib.Core.Bool.{Bool, true, false, cond}
+use Prim.Native.Nat.{ℕ, zero, suc, _+_, _-_}
+use mathlib.Core.Bool.{Bool, true, false, cond, not}
 use mathlib.Core.List.{List, [], _∷_, _++_}
-use lib.Dec.{eqb}
+use lib.Dec.{ltb}
 use Rattle.format.specs.declared.operation.WriteRecord.{WriteRecord}
-use Rattle.format.specs.Bytes.{byte, be}
+use Rattle.format.specs.Bytes.{byte, part}
+use Rattle.format.specs.Operation.{addressWidth}
 use Rattle.format.specs.Pool.{poolAt}
+use Rattle.format.specs.Size.{recordSize, operationMost}
 use Rattle.format.specs.Writes.{write}
+use Rattle.fields.specs.declared.decode.Decoded.{Decoded}
+use Rattle.fields.specs.Decoded.{decodedOperation, decodedRecord}
 use Rattle.spans.specs.declared.Segment.{Segment}
 
 -- so many writes upward from an address, with the bytes of a file from a place on, at a distance of 0 or 1
@@ -23,18 +27,28 @@ stepOf false = 0
 abbrev pub segmentWrites : List ℕ → Segment → List WriteRecord
 segmentWrites file segment = spread file (segment .target) (segment .address) (segment .source) (stepOf (segment .copied)) (segment .count)
 
--- where the bytes of the COPY at a place stand
-abbrev pub copySource : List ℕ → (directory at : ℕ) → ℕ
-copySource file directory at = poolAt file directory (be 2 file (at + 5)) .offset + be 4 file (at + 7)
+-- where the bytes of a COPY stand
+abbrev pub copySource : List ℕ → (directory : ℕ) → Decoded → ℕ
+copySource file directory item = poolAt file directory (item .pool) .offset + item .source
 
--- the operation of a version 2 file at a place, by its first byte
+-- an operation at a place, by its numbers. A WRITE's or FILL's value is its last byte
+abbrev pub segmentOf : List ℕ → (directory at : ℕ) → Decoded → Segment
+segmentOf file directory at item =
+    record {
+      target = item .target;
+      address = item .address;
+      count = item .length;
+      source = cond (ltb (item .opcode) 2) (at + item .size - 1) (copySource file directory item);
+      copied = not (ltb (item .opcode) 2);
+      next = at + item .size;
+    }
+
+-- the numbers of the operation of a version 2 file at a place
+abbrev pub numbersAt : List ℕ → (at : ℕ) → Decoded
+numbersAt file at = decodedOperation (addressWidth 2) (part file at operationMost)
+
 unfoldable pub segmentAt : List ℕ → (directory at : ℕ) → Segment
-segmentAt file directory at =
-    cond (eqb (byte file at) 0)
-    (record { target = byte file (at + 1); address = be 3 file (at + 2); count = 1; source = at + 5; copied = false; next = at + 6 })
-    (cond (eqb (byte file at) 1)
-    (record { target = byte file (at + 1); address = be 3 file (at + 2); count = be 4 file (at + 5); source = at + 9; copied = false; next = at + 10 })
-    (record { target = byte file (at + 1); address = be 3 file (at + 2); count = be 4 file (at + 11); source = copySource file directory at; copied = true; next = at + 15 }))
+segmentAt file directory at = segmentOf file directory at (numbersAt file at)
 
 -- so many operations from a place: their writes, and where they end
 unfoldable pub operationWrites : List ℕ → (directory count at : ℕ) → List WriteRecord
@@ -46,11 +60,15 @@ unfoldable pub operationsStop : List ℕ → (directory count at : ℕ) → ℕ
 operationsStop file directory zero at = at
 operationsStop file directory (suc count) at = operationsStop file directory count (segmentAt file directory at .next)
 
+-- the write of a record, by its numbers
+abbrev pub writeBy : Decoded → WriteRecord
+writeBy item = write (item .target) (item .address) (item .value)
+
 -- the write of the record at a place
 abbrev pub recordWrite : List ℕ → (at : ℕ) → WriteRecord
-recordWrite file at = write (byte file at) (be 3 file (at + 1)) (byte file (at + 4))
+recordWrite file at = writeBy (decodedRecord (part file at operationMost))
 
 -- so many records from a place
 unfoldable pub recordWrites : List ℕ → (count at : ℕ) → List WriteRecord
 recordWrites file zero at = []
-recordWrites file (suc count) at = recordWrite file at ∷ recordWrites file count (at + 5)
+recordWrites file (suc count) at = recordWrite file at ∷ recordWrites file count (at + recordSize)

@@ -1,8 +1,8 @@
-// An operation of a version 2 file as writes whose values stand in the file.
-use big_endian::byte_at;
-use big_endian::read_u16;
-use big_endian::read_u24;
-use big_endian::read_u32;
+// An operation of a version 2 file as writes whose values stand in the file. Its numbers come from the one reader of operations.
+use big_endian::item_bytes;
+use fields::Decoded;
+use fields::address_width;
+use fields::decode_operation;
 use pools::read_pool;
 ghost use mathlib.Core.Path.{_≡_};
 ghost use Prim.Native.Nat.{_≤_};
@@ -19,14 +19,12 @@ pub struct Segment {
     pub next: usize,
 }
 
-// Where the bytes of the COPY at a place stand.
-fn copy_source(file: &[u8], directory: u32, at: usize) -> usize
-    requires { ⌜ at ≤ 0x1000000000000000 ⌝ }
-    ensures { λ r. ⌜ (r ≡ copySource (now (file .entry)) directory at) × (r ≤ 0x200000000) ⌝ }
+// Where the bytes of a COPY stand.
+fn copy_source(file: &[u8], directory: u32, item: Decoded) -> usize
+    ensures { λ r. ⌜ (r ≡ copySource (now (file .entry)) directory item) × (r ≤ 0x200000000) ⌝ }
 {
-    let pool = read_pool(file, directory, read_u16(file, at + 5) as u32);
-    let source = read_u32(file, at + 7) as usize;
-    pool.offset as usize + source
+    let pool = read_pool(file, directory, item.pool as u32);
+    pool.offset as usize + item.source as usize
 }
 
 // How far the next value of a segment stands behind a value.
@@ -36,41 +34,31 @@ pub fn step_of(copied: bool) -> usize
     if copied { 1 } else { 0 }
 }
 
-// The operation at a place. The file was accepted, so that its rules are not tested again.
+// The operation at a place. The file was accepted, so that its rules are not tested again. The value of a WRITE or a FILL is its last
+// byte.
 pub fn segment_at(file: &[u8], directory: u32, at: usize) -> Segment
     requires { ⌜ at ≤ 0x1000000000000000 ⌝ }
     ensures { λ r. ⌜ (r ≡ segmentAt (now (file .entry)) directory at) × (r .source ≤ 0x2000000000000000) ⌝ }
 {
-    let target = byte_at(file, at + 1);
-    let address = read_u24(file, at + 2);
-    let opcode = byte_at(file, at);
-    if opcode == 0 {
+    let item = decode_operation(item_bytes(file, at), address_width(2));
+    let next = at + item.size;
+    if item.opcode < 2 {
         return Segment {
-            target,
-            address,
-            count: 1,
-            source: at + 5,
+            target: item.target,
+            address: item.address,
+            count: item.length,
+            source: next - 1,
             copied: false,
-            next: at + 6,
+            next,
         };
     }
-    if opcode == 1 {
-        return Segment {
-            target,
-            address,
-            count: read_u32(file, at + 5),
-            source: at + 9,
-            copied: false,
-            next: at + 10,
-        };
-    }
-    let source = copy_source(file, directory, at);
+    let source = copy_source(file, directory, item);
     Segment {
-        target,
-        address,
-        count: read_u32(file, at + 11),
+        target: item.target,
+        address: item.address,
+        count: item.length,
         source,
         copied: true,
-        next: at + 15,
+        next,
     }
 }

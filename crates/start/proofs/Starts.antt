@@ -21,7 +21,8 @@ unfolding startedAs playerOf
 recorded-as file header cards uses a = (rw (a .reads), rw (a .reads, a .header-is, a .cards-are, a .uses-is))
 
 -- an accepted file is recorded
-pub started-accepted : (file : List ℕ) (r : FileCheck) (header : Header) (uses : Bool) → fileCheckOf r ≡ recorded file → r .answer ≡ Accepted header uses → (ok tt ≡ verdictOn (read file)) × (recordedPlayer header (r .cards) uses ≡ started file)
+pub started-accepted : (file : List ℕ) (r : FileCheck) (header : Header) (uses : Bool) → fileCheckOf r ≡ recorded file → r .answer ≡ Accepted header uses
+    → (ok tt ≡ verdictOn (read file)) × (recordedPlayer header (r .cards) uses ≡ started file)
 started-accepted file r header uses e is = recorded-as file header (r .cards) uses (accepted-as file r header uses e is)
 
 -- a refused file gives the refused player

@@ -3,16 +3,13 @@ use file_check::FileAnswer;
 use file_check::check_file;
 use format::CardTable;
 use format::Header;
-use format::Part;
-use format::Progress;
 use format::StreamPlayer;
 use format::Verdict;
-use format::WaveSource;
 use state::refused_player;
-ghost use mathlib.Core.Bool.{false};
+use state::unplayed;
 ghost use mathlib.Core.Path.{_≡_};
 ghost use Rattle.format.specs.Rule.{verdictOf};
-ghost use Rattle.format.specs.State.{unplayed, started};
+ghost use Rattle.format.specs.State.{started};
 ghost use Rattle.format.specs.Stream.{read};
 ghost use Rattle.start.specs.Start.{recordedPlayer, verdictOn};
 
@@ -22,33 +19,11 @@ pub struct Started {
     pub state: StreamPlayer,
 }
 
-// The progress before the first vsync.
-fn unplayed(cursor: usize) -> Progress
-    ensures { λ r. ⌜ r ≡ unplayed false cursor ⌝ }
-{
-    let wave = WaveSource {
-        copied: false,
-        pool: 0,
-    };
-    let waves = [wave; 16];
-    Progress {
-        part: Part::BETWEEN,
-        cursor: cursor,
-        operation_index: 0,
-        operation_count: 0,
-        write_index: 0,
-        frame_index: 0,
-        initialized: false,
-        finished: false,
-        wave_sources: waves,
-    }
-}
-
 // The state of an accepted file.
 fn recorded(header: Header, cards: CardTable, uses_si22: bool) -> StreamPlayer
     ensures { λ r. ⌜ r ≡ recordedPlayer header cards «uses_si22» ⌝ }
 {
-    let progress = unplayed(header.frame_start);
+    let progress = unplayed(false, header.frame_start);
     StreamPlayer {
         header: header,
         cards: cards,

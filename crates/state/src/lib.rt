@@ -1,4 +1,9 @@
-// A player's state by value: made, moved on, and asked for a wave source.
+// A player's state: made, moved on, and asked for a wave source. No other crate makes a progress or says what a vsync plays next.
+mod next;
+mod position;
+mod progress;
+mod store;
+
 use format::CardRequirement;
 use format::CardTable;
 use format::Header;
@@ -6,9 +11,24 @@ use format::Part;
 use format::Progress;
 use format::StreamPlayer;
 use format::WaveSource;
+pub use next::closing_count;
+pub use next::next_part;
+pub use next::opening_limit;
+pub use next::operations_left;
+pub use position::between_at;
+pub use position::frame_from;
+pub use position::onward_to;
+pub use position::opening_from;
+pub use position::position_of;
+pub use progress::closing_at;
+pub use progress::frame_begun;
+pub use progress::frame_ended;
+pub use progress::opening_begun;
+pub use progress::placed;
+pub use progress::unplayed;
+pub use store::store_position;
 ghost use mathlib.Core.List.{[]};
 ghost use mathlib.Core.Path.{_≡_};
-ghost use Rattle.format.specs.Player.{placed, closingAt};
 ghost use Rattle.format.specs.State.{noCard, tableOf, partOf, refusedPlayer, moved, waveSource};
 
 // What stands for a card that is not there.
@@ -56,22 +76,7 @@ pub fn refused_player() -> StreamPlayer
         total_size: 0,
     };
     let cards = no_cards();
-    let wave = WaveSource {
-        copied: false,
-        pool: 0,
-    };
-    let waves = [wave; 16];
-    let progress = Progress {
-        part: Part::BETWEEN,
-        cursor: 0,
-        operation_index: 0,
-        operation_count: 0,
-        write_index: 0,
-        frame_index: 0,
-        initialized: false,
-        finished: true,
-        wave_sources: waves,
-    };
+    let progress = unplayed(true, 0);
     StreamPlayer {
         header: header,
         cards: cards,
@@ -108,47 +113,6 @@ pub fn wave_source(state: StreamPlayer, core: usize, channel: usize) -> WaveSour
     WaveSource {
         copied: false,
         pool: 0,
-    }
-}
-
-// The progress at a cursor, with so many operations done, and so many writes of the operation there.
-pub fn placed(
-    progress: Progress,
-    cursor: usize,
-    operations: u32,
-    writes: u32,
-    waves: [WaveSource; 16],
-) -> Progress
-    ensures { λ r. ⌜ r ≡ placed progress cursor operations writes waves ⌝ }
-{
-    Progress {
-        part: progress.part,
-        cursor: cursor,
-        operation_index: operations,
-        operation_count: progress.operation_count,
-        write_index: writes,
-        frame_index: progress.frame_index,
-        initialized: progress.initialized,
-        finished: progress.finished,
-        wave_sources: waves,
-    }
-}
-
-// The closing writes, with so many made.
-pub fn closing_at(progress: Progress, writes: u32, finished: bool) -> Progress
-    ensures { λ r. ⌜ r ≡ closingAt writes finished progress ⌝ }
-{
-    let waves = progress.wave_sources;
-    Progress {
-        part: Part::CLOSING,
-        cursor: progress.cursor,
-        operation_index: 0,
-        operation_count: 0,
-        write_index: writes,
-        frame_index: progress.frame_index,
-        initialized: true,
-        finished: finished,
-        wave_sources: waves,
     }
 }
 

@@ -8,7 +8,8 @@ use native.Mathlib.Omega.{arith}
 use borrow.Author.Tests.{ne-eqb, ltb-false}
 use lib.Dec.{eqb, ltb}
 use lib.ListN.{length, drop}
-use Rattle.format.specs.State.{partOf}
+use Rattle.format.specs.Next.{nextPart}
+use Rattle.format.specs.State.{partNumber, partOf}
 use Rattle.format.specs.declared.operation.WriteRecord.{WriteRecord}
 use Rattle.format.specs.declared.player.Part.{Part}
 use Rattle.format.specs.declared.player.Part.the-variants.{Between, Opening, Frame, Closing}
@@ -20,7 +21,7 @@ use Rattle.format.specs.Player.{Played, openingBegun, frameBegun, closingAt, pl
 use Rattle.format.specs.Stream.{openingLimit}
 use Rattle.format.proofs.Accepted.{opening-limit}
 use Rattle.format.proofs.Checks.{through, passed-test, passed-check, ok-is, or-false}
-use Rattle.agreement.proofs.Planned.{checked-25, records-fit}
+use Rattle.play_laws.proofs.Planned.{checked-25, records-fit}
 use Rattle.segments.specs.declared.place.Place.{Place}
 use Rattle.begin.specs.Begin.{nowhere, frameAt, openingPlace, betweenPlace, partPlace, firstPlace}
 use Rattle.writes.specs.Segment.{inserted}
@@ -70,10 +71,10 @@ module _ (file : List ℕ) (state : StreamPlayer) (short : openingLimit (state .
   gives-part Frame a e = under-way file state total (state .progress) a e run some refl
   gives-part Closing a e = closing-stored file state total (state .progress) a run e some refl
   gives-part Between a e =
-      gives-either (not (state .progress .initialized)) _ _ _ _ (gives-opening (state .progress))
-      (gives-either (ltb (state .progress .«frame_index») (state .header .«frame_count»)) _ _ _ _ (gives-frame (state .progress .cursor) (state .progress .«frame_index») (state .progress))
-      (gives-either (state .header .repeat) _ _ _ _ (gives-frame (state .header .«frame_start») 0 (state .progress))
-      (λ a e. closing-stored file state total (closingAt 0 false (state .progress)) a run e some refl))) a e
+      let next = nextPart (state .header) (state .progress) in
+      gives-either (eqb (next .part) (partNumber Opening)) _ _ _ _ (gives-opening (state .progress))
+      (gives-either (eqb (next .part) (partNumber Frame)) _ _ _ _ (gives-frame (next .place) (next .frame) (state .progress))
+      (λ a e. closing-stored file state total (closingAt 0 false (state .progress)) a run e some refl)) a e
 
 -- a call that takes none leaves the run as it is
 pub stored-nothing : (file : List ℕ) (state : StreamPlayer) (run : List WriteRecord) → storedCall file state 0 run ≡ run
@@ -81,23 +82,28 @@ unfolding storedCall firstPlace
 stored-nothing file state run = stored-none file state (nowhere (length run)) run refl
 
 -- a call that takes some is of a state that belongs to the file, and plays the part that is under way
-plays : (file : List ℕ) (state : StreamPlayer) (room : ℕ) (a : Played) → call state file room ≡ ok a → 0 < length (a .records) → (belongs state file ≡ ok tt) × (play state file room (state .progress) (partOf (state .progress .part)) ≡ ok a)
+plays : (file : List ℕ) (state : StreamPlayer) (room : ℕ) (a : Played) → call state file room ≡ ok a → 0 < length (a .records)
+    → (belongs state file ≡ ok tt) × (play state file room (state .progress) (partOf (state .progress .part)) ≡ ok a)
 unfolding call
 plays file state room a e some = go (state .progress .finished) e
   where
-    go : (b : Bool) → cond b (ok (record { records = []; complete = true; next = state })) (as25 (belongs state file >> play state file room (state .progress) (partOf (state .progress .part)))) ≡ ok a → (belongs state file ≡ ok tt) × (play state file room (state .progress) (partOf (state .progress .part)) ≡ ok a)
+    go : (b : Bool)
+        → cond b (ok (record { records = []; complete = true; next = state })) (as25 (belongs state file >> play state file room (state .progress) (partOf (state .progress .part)))) ≡ ok a
+        → (belongs state file ≡ ok tt) × (play state file room (state .progress) (partOf (state .progress .part)) ≡ ok a)
     go true e =
         let none : 0 ≡ length (a .records) = ap (λ (x : Played). length (x .records)) (ok-is e) in
         absurd (omega arith)
     go false e = passed-check (belongs state file) (checked-25 _ a e)
 
-taken-stored : (file : List ℕ) (state : StreamPlayer) (run : List WriteRecord) (a : Played) → call state file (length run) ≡ ok a → 0 < length (a .records) → storedCall file state (length (a .records)) run ≡ stored (a .records) run
+taken-stored : (file : List ℕ) (state : StreamPlayer) (run : List WriteRecord) (a : Played) → call state file (length run) ≡ ok a → 0 < length (a .records)
+    → storedCall file state (length (a .records)) run ≡ stored (a .records) run
 unfolding storedCall firstPlace
 taken-stored file state run a e some =
     let fits = records-fit state file (length run) a e in
     let front : length run - length run ≡ 0 = omega arith in
     let played = plays file state (length run) a e some in
-    rw (ne-eqb (length (a .records)) 0 (λ (z : length (a .records) ≡ 0). omega arith)) (gives-part file state (opening-within state file (played .0)) run (omega (arith, fits)) (partOf (state .progress .part)) a (played .1) ∙ ap (λ (k : ℕ). inserted k (a .records) run) front ∙ ap (λ (k : ℕ). a .records ++ drop k run) (zero-add (length (a .records))))
+    rw (ne-eqb (length (a .records)) 0 (λ (z : length (a .records) ≡ 0). omega arith)) (gives-part file state (opening-within state file (played .0)) run (omega (arith, fits)) (partOf (state .progress .part)) a (played .1)
+    ∙ ap (λ (k : ℕ). inserted k (a .records) run) front ∙ ap (λ (k : ℕ). a .records ++ drop k run) (zero-add (length (a .records))))
 
 -- an answer's records are stored in front, and no later one is touched
 pub call-stored : (file : List ℕ) (state : StreamPlayer) (run : List WriteRecord) (a : Played) → call state file (length run) ≡ ok a → storedCall file state (length (a .records)) run ≡ runAfter run (call state file (length run))

@@ -12,12 +12,13 @@ use Rattle.format.specs.declared.operation.WriteRecord.{WriteRecord}
 use Rattle.format.specs.declared.player.Progress.{Progress}
 use Rattle.format.specs.declared.player.StreamPlayer.{StreamPlayer}
 use Rattle.format.specs.Checked.{ok}
+use Rattle.format.specs.Pace.{closingCount}
 use Rattle.format.specs.Player.{Played, playClosing}
 use Rattle.format.specs.Writes.{write, upward, silence, closingWrites}
 use Rattle.format.proofs.Checks.{passed-test, ok-is}
 use Rattle.segments.specs.declared.place.Place.{Place}
 use Rattle.segments.specs.declared.place.Turn.{Turn}
-use Rattle.begin.specs.Begin.{closingCount, closingFrom}
+use Rattle.begin.specs.Begin.{closingFrom}
 use Rattle.segments.specs.Closing.{zeroTo, closingSegment}
 use Rattle.segments.specs.Place.{stopped}
 use Rattle.segments.specs.Turn.{closingTurn, turn}
@@ -115,7 +116,8 @@ module _ (file : List ℕ) (state : StreamPlayer) (total : ℕ) where
       ∙ ap (λ (k : ℕ). inserted k (take (suc room) (closingLast left)) run′) place
       ∙ inserted-twice (total - suc (suc room)) one (take (suc room) (closingLast left)) run (omega arith)
 
-  pub closing-stored : (p : Progress) (a : Played) (run : List WriteRecord) → playClosing state total p ≡ ok a → 0 < total → length run ≡ total → storedFrom file state (closingFrom state (p .«write_index») total) run ≡ inserted (total - total) (a .records) run
+  pub closing-stored : (p : Progress) (a : Played) (run : List WriteRecord) → playClosing state total p ≡ ok a → 0 < total → length run ≡ total
+      → storedFrom file state (closingFrom state (p .«write_index») total) run ≡ inserted (total - total) (a .records) run
   unfolding playClosing
   closing-stored p a run e some long =
       let b = passed-test 25 0 (ltb (length (closingWrites (state .«uses_si22»))) (p .«write_index»)) e in

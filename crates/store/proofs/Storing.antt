@@ -43,7 +43,9 @@ module _ (file : List ℕ) (state : StreamPlayer) where
       in-none (suc n) place run none ∙ sym (in-none zero place run none)
   enough (suc n) (suc m) place run h h′ = go (eqb (place .left) 0) refl (λ less. enough n m (turn file state place .place) (turned place run) (omega (arith, less)) (omega (arith, less)))
     where
-      go : (b : Bool) → eqb (place .left) 0 ≡ b → (turn file state place .place .left < place .left → storedIn n file state (turn file state place .place) (turned place run) ≡ storedIn m file state (turn file state place .place) (turned place run)) → storedIn (suc n) file state place run ≡ storedIn (suc m) file state place run
+      go : (b : Bool) → eqb (place .left) 0 ≡ b
+          → (turn file state place .place .left < place .left → storedIn n file state (turn file state place .place) (turned place run) ≡ storedIn m file state (turn file state place .place) (turned place run))
+          → storedIn (suc n) file state place run ≡ storedIn (suc m) file state place run
       go true e later =
           let none : place .left ≡ 0 = eqb-true _ _ e in
           in-none (suc n) place run none ∙ sym (in-none (suc m) place run none)
@@ -61,14 +63,16 @@ module _ (file : List ℕ) (state : StreamPlayer) where
   unfolding storedFrom
   stored-step place run some =
       let less = turn-less file state place some in
-      enough (place .left) (suc (place .left)) place run (le-refl (place .left)) (omega arith) ∙ in-step (place .left) place run some ∙ enough (place .left) (turn file state place .place .left) (turn file state place .place) (turned place run) (omega (arith, less)) (le-refl (turn file state place .place .left))
+      enough (place .left) (suc (place .left)) place run (le-refl (place .left)) (omega arith) ∙ in-step (place .left) place run some
+      ∙ enough (place .left) (turn file state place .place .left) (turn file state place .place) (turned place run) (omega (arith, less)) (le-refl (turn file state place .place .left))
 
   in-long : (turns : ℕ) (place : Place) (run : List WriteRecord) → length (storedIn turns file state place run) ≡ length run
   unfolding storedIn
   in-long zero place run = refl
   in-long (suc turns) place run = go (eqb (place .left) 0) (in-long turns (turn file state place .place) (turned place run))
     where
-      go : (b : Bool) → length (storedIn turns file state (turn file state place .place) (turned place run)) ≡ length (turned place run) → length (cond b run (storedIn turns file state (turn file state place .place) (turned place run))) ≡ length run
+      go : (b : Bool) → length (storedIn turns file state (turn file state place .place) (turned place run)) ≡ length (turned place run)
+          → length (cond b run (storedIn turns file state (turn file state place .place) (turned place run))) ≡ length run
       go true later = refl
       go false later = later ∙ stored-long file (turn file state place .segment) (turn file state place .at) run
 

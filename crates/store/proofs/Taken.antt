@@ -14,8 +14,8 @@ use Rattle.format.specs.Pace.{countOf, addressOf, writeAt}
 use Rattle.format.specs.Player.{bytesAt}
 use Rattle.format.specs.Pool.{poolAt}
 use Rattle.format.specs.Writes.{write, writesWith}
-use Rattle.agreement.proofs.Paced.{Writes}
-use Rattle.agreement.proofs.Used.{length-upward}
+use Rattle.format.proofs.Writes.{length-upward}
+use Rattle.play_laws.proofs.Paced.{Writes}
 use Rattle.segments.specs.Operation.{segmentOf}
 use Rattle.writes.specs.declared.Segment.{Segment}
 use Rattle.writes.specs.Segment.{recordsOf, inserted, segmentStored}
@@ -77,6 +77,11 @@ module _ (file : List ℕ) (directory done n : ℕ) where
         at i less = getD-take n (drop done writes) i _ less ∙ getD-drop done writes i _ ∙ w .each (done + i) _ (omega (arith, less))
 
     -- the run with the writes in it
-    pub taken-stored : addressOf operation + countOf operation ≤ 0x2000000 → (at : ℕ) (run : List WriteRecord) → at + n ≤ length run → segmentStored file (segmentAt operation) at run ≡ inserted at (take n (drop done writes)) run
+    pub taken-stored : addressOf operation + countOf operation ≤ 0x2000000 → (at : ℕ) (run : List WriteRecord) → at + n ≤ length run
+        → segmentStored file (segmentAt operation) at run ≡ inserted at (take n (drop done writes)) run
     taken-stored small at run room =
-        stored-all file (segmentAt operation) at run (λ some. record { inside = omega (arith, size-is operation); addresses = omega (arith, size-is operation, address-is operation); bytes = λ copied. rw (size-is operation) (within operation w fits (omega (arith, some, size-is operation)) copied) }) ∙ ap (λ (k : ℕ). inserted at (recordsOf file (segmentAt operation) k) run) (size-is operation) ∙ ap (λ (l : List WriteRecord). inserted at l run) records-are
+        stored-all file (segmentAt operation) at run (λ some. record {
+          inside = omega (arith, size-is operation);
+          addresses = omega (arith, size-is operation, address-is operation);
+          bytes = λ copied. rw (size-is operation) (within operation w fits (omega (arith, some, size-is operation)) copied);
+        }) ∙ ap (λ (k : ℕ). inserted at (recordsOf file (segmentAt operation) k) run) (size-is operation) ∙ ap (λ (l : List WriteRecord). inserted at l run) records-are

@@ -65,7 +65,8 @@ module _ {M : Type 1} (𝓤 : URA M) (H : Heap 𝓤) (A : Atoms 𝓤) (mem : Mem
 
     pub asks-fits : Given 𝓤 H A → room < 2 ^ 64 → count < 2 ^ 64 → ent 𝓤 (emp 𝓤) (Fits .pre to-fits)
     asks-fits W room-fits count-fits =
-        qed W [] ∵ nothing ! $ owned ! usize (Is usize) (uint-makes 𝓤 H A W w64) count _ (refl, count-fits) $ fjoin ! $ owned ! usize (Is usize) (uint-makes 𝓤 H A W w64) room _ (refl, room-fits) $ fjoin ! $ nothing ! $ join ! $ nothing ! $ move ! (1 ∷ 0 ∷ []) $ join ! $ done !
+        qed W [] ∵ nothing ! $ owned ! usize (Is usize) (uint-makes 𝓤 H A W w64) count _ (refl, count-fits) $ fjoin ! $
+        owned ! usize (Is usize) (uint-makes 𝓤 H A W w64) room _ (refl, room-fits) $ fjoin ! $ nothing ! $ join ! $ nothing ! $ move ! (1 ∷ 0 ∷ []) $ join ! $ done !
 
   -- THE FIRST PLACE
 
@@ -84,7 +85,8 @@ module _ {M : Type 1} (𝓤 : URA M) (H : Heap 𝓤) (A : Atoms 𝓤) (mem : Mem
 
     pub asks-first : Given 𝓤 H A → from < 2 ^ 64 → made < 2 ^ 32 → ent 𝓤 (emp 𝓤) (First .pre to-first)
     asks-first W from-fits made-fits =
-        qed W [] ∵ nothing ! $ owned ! u32 (Is u32) (uint-makes 𝓤 H A W w32) made _ (refl, made-fits) $ fjoin ! $ owned ! usize (Is usize) (uint-makes 𝓤 H A W w64) from _ (refl, from-fits) $ fjoin ! $ nothing ! $ join ! $ nothing ! $ move ! (1 ∷ 0 ∷ []) $ join ! $ done !
+        qed W [] ∵ nothing ! $ owned ! u32 (Is u32) (uint-makes 𝓤 H A W w32) made _ (refl, made-fits) $ fjoin ! $
+        owned ! usize (Is usize) (uint-makes 𝓤 H A W w64) from _ (refl, from-fits) $ fjoin ! $ nothing ! $ join ! $ nothing ! $ move ! (1 ∷ 0 ∷ []) $ join ! $ done !
 
   -- THE NEXT PLACE
 
@@ -103,4 +105,6 @@ module _ {M : Type 1} (𝓤 : URA M) (H : Heap 𝓤) (A : Atoms 𝓤) (mem : Mem
 
     pub asks-next : Given 𝓤 H A → version < 2 ^ 8 → Fitting p → ent 𝓤 (sep 𝓤 (A .lft κ q) (sem 𝓤 H A (File κ x))) (Next .pre to-next)
     asks-next W version-fits fit =
-        qed W (‵ (flft κ q) ∷ ‵ (File κ x) ∷ []) ∵ nothing ! $ owned ! F.the-row (Is F.the-row) ((LL.makes F.the-type F′.the-plain) 𝓤 H A) p _ fit $ fjoin ! $ owned ! u8 (Is u8) (uint-makes 𝓤 H A W w8) version _ (refl, version-fits) $ fjoin ! $ move ! (2 ∷ 0 ∷ []) $ fjoin ! $ nothing ! $ move ! (2 ∷ 0 ∷ []) $ join ! $ nothing ! $ move ! (1 ∷ 2 ∷ 0 ∷ []) $ join ! $ join ! $ done !
+        qed W (‵ (flft κ q) ∷ ‵ (File κ x) ∷ []) ∵ nothing ! $ owned ! F.the-row (Is F.the-row) ((LL.makes F.the-type F′.the-plain) 𝓤 H A) p _ fit $ fjoin ! $
+        owned ! u8 (Is u8) (uint-makes 𝓤 H A W w8) version _ (refl, version-fits) $ fjoin ! $ move ! (2 ∷ 0 ∷ []) $ fjoin ! $ nothing ! $ move ! (2 ∷ 0 ∷ []) $ join ! $
+        nothing ! $ move ! (1 ∷ 2 ∷ 0 ∷ []) $ join ! $ join ! $ done !

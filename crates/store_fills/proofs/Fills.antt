@@ -9,7 +9,7 @@ use Rattle.format.specs.declared.operation.WriteRecord.{WriteRecord}
 use Rattle.fill_records.specs.declared.FillPlace.{FillPlace}
 use Rattle.fill_records.specs.Records.{fillPlace, nextFill, recordOf, fillRecords, placeAfter}
 use Rattle.fill_records.proofs.Records.{records-long, record-at}
-use Rattle.writes.proofs.Front as front
+use Rattle.format.proofs.Lent as front
 use Rattle.store_fills.specs.Stored.{fillsStored}
 
 module _ (file : List ℕ) (version from made : ℕ) where
@@ -44,7 +44,8 @@ module _ (file : List ℕ) (version from made : ℕ) where
 
     pub pasted-next : (i : ℕ) → i < n → set (pasted i) i (recordOf (placed (i + 1))) ≡ pasted (i + 1)
     pasted-next i less =
-        front.pasted-next records run fits i (recordOf (placed (i + 1))) (rw (records-long file version n (fillPlace from made)) less) (record-at file version n (fillPlace from made) i (recordOf (placed (i + 1))) less ∙ ap recordOf (placed-next i))
+        front.pasted-next records run fits i (recordOf (placed (i + 1))) (rw (records-long file version n (fillPlace from made)) less)
+        (record-at file version n (fillPlace from made) i (recordOf (placed (i + 1))) less ∙ ap recordOf (placed-next i))
 
     pub stored-is : pasted n ≡ fillsStored file version from made count run
     unfolding fillsStored

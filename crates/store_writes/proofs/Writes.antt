@@ -1,24 +1,19 @@
--- Laws of the writes that are stored: how many they are, each of them in 16 bytes, and the run after some turns of the loop.
+-- Laws of the writes that are stored: how many they are, and the run after some turns of the loop.
 use Prim.Native.Nat.{ℕ, zero, suc, _+_, _*_, _≤_, _<_}
 use mathlib.Core.Bool.{Bool, true, false, cond, _||_, or-true}
 use mathlib.Core.List.{List}
 use mathlib.Core.Path.{_≡_, refl, sym}
-use native.Mathlib.Nat.{suc-mul, add-zero, mul-le-mul-right}
+use native.Mathlib.Nat.{suc-mul, mul-le-mul-right}
 use native.Mathlib.Omega.{arith}
 use borrow.Author.Tests.{lt-ltb, le-ltb, ltb-false, leb-true}
-use lib.Dec.{eqb, ltb}
+use lib.Dec.{ltb}
 use lib.ListN.{length, set}
 use Rattle.format.specs.declared.operation.WriteRecord.{WriteRecord}
-use Rattle.format.specs.Bytes.{byte, be, part}
-use Rattle.format.specs.Operation.{addressWidth}
-use Rattle.format.specs.Writes.{write}
-use Rattle.format.proofs.Bytes.{byte-part, be-part}
 use Rattle.format.proofs.Checks.{and-true}
-use Rattle.format.proofs.Sizes.{width-range}
 use Rattle.plain_writes.specs.Plain.{plainSize, plainAt, plainBehind, plainWrite, plainWrites}
 use Rattle.plain_writes.proofs.Gather.{all-plain}
 use Rattle.plain_writes.proofs.Writes.{writes-long, write-at}
-use Rattle.writes.proofs.Front as front
+use Rattle.format.proofs.Lent as front
 use Rattle.store_writes.specs.Stored.{storable, writesStored}
 
 -- HOW MANY
@@ -48,8 +43,10 @@ module _ (room size version from count : ℕ) where
           → (cond (a || b) 0 count ≤ room) × ((i : ℕ) → i < cond (a || b) 0 count → from + i * plainSize version + 16 ≤ size)
       go true e b f = (omega arith, λ i less. absurd (omega (arith, less)))
       go false e true f = (omega arith, λ i less. absurd (omega (arith, less)))
-      go false e false f =
-          (ltb-false room count e, λ i less. omega (arith, less, ltb-false (size + plainSize version) (from + count * plainSize version + 16) f, suc-mul i (plainSize version), mul-le-mul-right {m = suc i} {n = count} (plainSize version) (omega (arith, less))))
+      go false e false f = (
+        ltb-false room count e,
+        λ i less. omega (arith, less, ltb-false (size + plainSize version) (from + count * plainSize version + 16) f, suc-mul i (plainSize version), mul-le-mul-right {m = suc i} {n = count} (plainSize version) (omega (arith, less))),
+      )
 
 -- so many plain WRITEs have 16 bytes from the last one on before the end
 behind-room : (version : ℕ) (file : List ℕ) (end count at : ℕ) → 0 < plainBehind version file end (suc count) at → at + count * plainSize version + 16 ≤ end
@@ -68,21 +65,6 @@ storable-all version file room end from zero within inside some = go (ltb room z
     go false = refl
 storable-all version file room end from (suc count) within inside some =
     storable-fit room (length file) version from (suc count) inside (omega (arith, within, behind-room version file end count from some, suc-mul count (plainSize version)))
-
--- EACH OF THEM
-
--- its fields stand in 16 bytes from its place on
-module _ (version : ℕ) (file : List ℕ) (at : ℕ) where
-  pub write-first : eqb version 1 ≡ true → write (byte (part file at 16) 0) (be 3 (part file at 16) 1) (byte (part file at 16) 4) ≡ plainWrite version file at
-  unfolding plainWrite
-  write-first one = rw (one, byte-part file at 16 0 (omega arith), be-part 3 file at 16 1 (omega arith), byte-part file at 16 4 (omega arith), add-zero at)
-
-  pub write-later : eqb version 1 ≡ false → write (byte (part file at 16) 1) (be (addressWidth version) (part file at 16) 2) (byte (part file at 16) (2 + addressWidth version)) ≡ plainWrite version file at
-  unfolding plainWrite
-  write-later later =
-      let range = width-range version in
-      let last : at + (2 + addressWidth version) ≡ at + 2 + addressWidth version = omega arith in
-      rw (later, byte-part file at 16 1 (omega arith), be-part (addressWidth version) file at 16 2 (omega arith), byte-part file at 16 (2 + addressWidth version) (omega arith), last)
 
 -- THE RUN AFTER SOME TURNS
 

@@ -1,11 +1,12 @@
 // The lent run: the writes of successive plain WRITEs, stored straight from the file.
-use big_endian::byte_at;
-use big_endian::read_u24;
 use big_endian::window;
+use fields::address_in;
+use fields::address_width;
+use fields::decode_record;
+use fields::target_in;
+use fields_known::write_value_in;
 use format::WriteRecord;
 use plain_writes::plain_size;
-use widths::address_width;
-use widths::read_address;
 ghost use mathlib.Core.Path.{_≡_};
 ghost use Prim.Native.Nat.{_+_, _*_, _≤_};
 ghost use lib.ListN.{length};
@@ -37,17 +38,18 @@ fn nth_write(file: &[u8], version: u8, from: usize, index: usize) -> WriteRecord
 {
     let bytes = window(file, from + index * plain_size(version));
     if version == 1 {
+        let record = decode_record(bytes);
         return WriteRecord {
-            target: byte_at(bytes, 0),
-            address: read_u24(bytes, 1),
-            value: byte_at(bytes, 4),
+            target: record.target,
+            address: record.address,
+            value: record.value,
         };
     }
     let width = address_width(version);
     WriteRecord {
-        target: byte_at(bytes, 1),
-        address: read_address(bytes, width, 2),
-        value: byte_at(bytes, 2 + width),
+        target: target_in(bytes),
+        address: address_in(bytes, width),
+        value: write_value_in(bytes, width),
     }
 }
 

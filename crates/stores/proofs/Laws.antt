@@ -11,7 +11,7 @@ use lib.Dec.{leb}
 use lib.ListN.{length, take, drop, set, length-append}
 use lib.Seq.{paste-zero, paste-suc, take-all, take-at, getD-at, length-take-le, drop-at, length-paste, drop-paste, take-length}
 use Rattle.format.specs.Bytes.{be, bytesOf}
-use Rattle.round_trip.proofs.Places.{length-bytesOf, be-here}
+use Rattle.format.proofs.Bytes.{length-bytesOf, be-here}
 use Rattle.stores.specs.Put.{put}
 
 -- bytes that fit stand at their place, with what was before and behind them
@@ -63,10 +63,12 @@ module _ (bytes : List ℕ) (at : ℕ) (buffer : List ℕ) where
       go false e = passes
 
   pub put-before : take at (put bytes at buffer) ≡ take at buffer
-  put-before = cases (λ (l : List ℕ). take at l ≡ take at buffer) (λ h. rw append-assoc (take-at (take at buffer) (bytes ++ drop (at + length bytes) buffer) at (length-take-le at buffer (omega arith)))) refl
+  put-before =
+      cases (λ (l : List ℕ). take at l ≡ take at buffer) (λ h. rw append-assoc (take-at (take at buffer) (bytes ++ drop (at + length bytes) buffer) at (length-take-le at buffer (omega arith)))) refl
 
   pub put-behind : drop (at + length bytes) (put bytes at buffer) ≡ drop (at + length bytes) buffer
-  put-behind = cases (λ (l : List ℕ). drop (at + length bytes) l ≡ drop (at + length bytes) buffer) (λ h. rw take-length at (drop-paste buffer at bytes (length bytes) (omega arith) (omega arith))) refl
+  put-behind =
+      cases (λ (l : List ℕ). drop (at + length bytes) l ≡ drop (at + length bytes) buffer) (λ h. rw take-length at (drop-paste buffer at bytes (length bytes) (omega arith) (omega arith))) refl
 
   pub length-put : length (put bytes at buffer) ≡ length buffer
   length-put = cases (λ (l : List ℕ). length l ≡ length buffer) (λ h. rw take-length at (length-paste buffer at bytes (length bytes) h (omega arith))) refl

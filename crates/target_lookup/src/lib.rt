@@ -7,7 +7,7 @@ ghost use Rattle.format.specs.Card.{cardsOf};
 ghost use Rattle.format.specs.Target.{slotTarget, targetOf};
 
 // How many cards a table holds: its count, but never more than the eight that it has.
-fn held(count: usize) -> usize
+pub fn held(count: usize) -> usize
     ensures { λ r. ⌜ r ≡ min count 8 ⌝ }
 {
     if count < 8 {

@@ -14,7 +14,8 @@ use Rattle.format.specs.Player.{slotWrong}
 use Rattle.format.proofs.Cards.{pastCard}
 
 -- that card has the slot, or the cards behind decide
-pub wrong-step : (cards : List CardRequirement) (n i slot : ℕ) → i < n → i < length cards → slotWrong (drop i (take n cards)) slot ≡ cond (eqb (getD cards i pastCard .slot) slot) (oneCardWrong (getD cards i pastCard)) (slotWrong (drop (i + 1) (take n cards)) slot)
+pub wrong-step : (cards : List CardRequirement) (n i slot : ℕ) → i < n → i < length cards
+    → slotWrong (drop i (take n cards)) slot ≡ cond (eqb (getD cards i pastCard .slot) slot) (oneCardWrong (getD cards i pastCard)) (slotWrong (drop (i + 1) (take n cards)) slot)
 unfolding slotWrong
 wrong-step cards n i slot h within =
     let inside : i < length (take n cards) = simp length-take (omega arith) in

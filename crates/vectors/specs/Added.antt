@@ -1,4 +1,4 @@
--- The counts of a program that replays a list of stored answers. Assumes nothing.
+-- The counts of a program that replays a list of stored answers.
 use Prim.Native.Nat.{ℕ, _+_, _%_, _^_}
 use mathlib.Core.Path.{_≡_}
 use Rattle.vectors.specs.declared.Counts.{Counts}

@@ -1,4 +1,6 @@
 // The bytes of a wave: whether two waves have the same, and a hash of them.
+use format::RECORD_SIZE;
+use format::WAVE_SIZE;
 ghost use mathlib.Core.Path.{_≡_};
 ghost use Prim.Native.Nat.{_+_, _≤_, _<_};
 ghost use lib.ListN.{length};
@@ -11,15 +13,15 @@ pub fn same_wave(file: &[u8], a: usize, b: usize) -> bool
     requires { ⌜ (a + 1280 ≤ length (now file)) × (b + 1280 ≤ length (now file)) ⌝ }
     ensures { λ r. ⌜ r ≡ sameBytes (waveAt (now (file .entry)) a) (waveAt (now (file .entry)) b) ⌝ }
 {
-    let mut left: usize = 256;
+    let mut left = WAVE_SIZE;
     let mut one = a;
     let mut other = b;
     while 0 < left {
         if file[one + 4] != file[other + 4] {
             return false;
         }
-        one += 5;
-        other += 5;
+        one += RECORD_SIZE;
+        other += RECORD_SIZE;
         left -= 1;
     }
     true

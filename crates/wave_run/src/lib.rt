@@ -1,6 +1,9 @@
 // Whether a wave starts at a place of a master: 256 records to one core at consecutive addresses.
 use big_endian::read_u24;
 use big_endian::read_u32;
+use format::RECORD_SIZE;
+use format::WAVE_RECORDS_SIZE;
+use format::WAVE_SIZE;
 ghost use mathlib.Core.Path.{_≡_};
 ghost use Prim.Native.Nat.{_+_, _*_, _≤_, _<_};
 ghost use lib.ListN.{length};
@@ -12,14 +15,14 @@ fn runs_on(records: &[u8], target: u8, address: u32) -> bool
     requires { ⌜ (length (now records) ≡ 1280) × (target < 2) × (address < 0x800) ⌝ }
     ensures { λ r. ⌜ r ≡ runs 256 target address (recordsAt (now (records .entry)) 256 0) ⌝ }
 {
-    let mut left: usize = 256;
+    let mut left = WAVE_SIZE;
     let mut place: usize = 0;
     let mut head = target as u32 * 0x1000000 + address;
     while 0 < left {
         if read_u32(records, place) != head {
             return false;
         }
-        place += 5;
+        place += RECORD_SIZE;
         head += 1;
         left -= 1;
     }
@@ -31,7 +34,7 @@ pub fn starts_wave(file: &[u8], at: usize, left: usize) -> bool
     requires { ⌜ at + left * 5 ≤ length (now file) ⌝ }
     ensures { λ r. ⌜ r ≡ startsWave (recordsAt (now (file .entry)) left at) ⌝ }
 {
-    if left < 256 {
+    if left < WAVE_SIZE {
         return false;
     }
     let target = file[at];
@@ -45,5 +48,5 @@ pub fn starts_wave(file: &[u8], at: usize, left: usize) -> bool
     if address % 256 != 0 {
         return false;
     }
-    runs_on(&file[at..at + 1280], target, address)
+    runs_on(&file[at..at + WAVE_RECORDS_SIZE], target, address)
 }

@@ -13,12 +13,10 @@ use lib.Dec.{eqb, ltb}
 use lib.ListN.{length, getD, take, set, replicate, length-set, length-map, length-replicate, getD-replicate}
 use lib.Seq.{take-suc, length-take-le, getD-set-same, getD-set-other, take-set-le}
 use Rattle.format.specs.Bytes.{sameBytes}
-use Rattle.format.specs.Repack.{isKnown, placeOf}
+use Rattle.format.specs.Repack.{isKnown, added, placeOf}
 use Rattle.format.proofs.Same.{same-bytes}
-use Rattle.round_trip.proofs.Waves.{known-place}
+use Rattle.format.proofs.Known.{known-snoc, known-place, place-kept, place-new, place-none, place-few}
 use Rattle.master.specs.Places.{waveAt}
-use Rattle.master.specs.Result.{added}
-use Rattle.master.proofs.Known.{known-snoc, place-kept, place-new, place-none, place-few}
 use Rattle.wave_hash.specs.Hash.{bucketAt}
 use Rattle.wave_hash.proofs.Hash.{same-bucket, bucket-below}
 use Rattle.wave_table.specs.Table.{wavesIn, latest, found, Chain, Table, Added}
@@ -201,9 +199,14 @@ module _ (file heads next places : List ℕ) (count at : ℕ) (table : Table fil
         places-size = length-set places count at ∙ table .places-size;
         few = omega arith;
         heads-are = λ b less. ap (λ (n : ℕ). getD (set heads bucket n) b 0) (add-one count) ∙ head b (ℕ-discrete b bucket) less ∙ rw (add-one count, last, latest-set file places count at b count (le-refl count));
-        next-are = below-more (λ (k : ℕ). getD now-next k 0 ≡ latest file now-places (bucketAt file (getD now-places k 0)) k) count (λ k less. rw (getD-set-other next count k (getD heads bucket 0) 0 (λ e. omega arith), kept k less, latest-set file places count at (bucketAt file (getD places k 0)) k (omega arith)) (table .next-are k less)) (rw (getD-set-same next count (getD heads bucket 0) 0 room′, last, latest-set file places count at bucket count (le-refl count)) (table .heads-are bucket small));
+        next-are =
+            below-more (λ (k : ℕ). getD now-next k 0 ≡ latest file now-places (bucketAt file (getD now-places k 0)) k) count
+            (λ k less. rw (getD-set-other next count k (getD heads bucket 0) 0 (λ e. omega arith), kept k less, latest-set file places count at (bucketAt file (getD places k 0)) k (omega arith)) (table .next-are k less))
+            (rw (getD-set-same next count (getD heads bucket 0) 0 room′, last, latest-set file places count at bucket count (le-refl count)) (table .heads-are bucket small));
         inside = below-more (λ (k : ℕ). getD now-places k 0 + 1280 ≤ length file) count (λ k less. rw (kept k less) (table .inside k less)) (rw last here);
-        fresh = below-more (λ (k : ℕ). isKnown (wavesIn file now-places k) (waveAt file (getD now-places k 0)) ≡ false) count (λ k less. rw (waves-set file places count at k (omega arith), kept k less) (table .fresh k less)) (rw (waves-set file places count at count (le-refl count), last) new);
+        fresh =
+            below-more (λ (k : ℕ). isKnown (wavesIn file now-places k) (waveAt file (getD now-places k 0)) ≡ false) count
+            (λ k less. rw (waves-set file places count at k (omega arith), kept k less) (table .fresh k less)) (rw (waves-set file places count at count (le-refl count), last) new);
       }
     where
       head : (b : ℕ) → Dec (b ≡ bucketAt file at) → b < 16384

@@ -6,9 +6,8 @@ use mathlib.Core.Path.{_≡_}
 use lib.Dec.{eqb}
 use lib.ListN.{length, getD, take}
 use Rattle.format.specs.Bytes.{sameBytes}
-use Rattle.format.specs.Repack.{isKnown, placeOf}
+use Rattle.format.specs.Repack.{isKnown, added, placeOf}
 use Rattle.master.specs.Places.{waveAt}
-use Rattle.master.specs.Result.{added}
 use Rattle.wave_hash.specs.Hash.{bucketAt}
 
 -- the first so many waves of the table

@@ -1,6 +1,2 @@
 pub mod Lists
-pub mod Front
 pub mod Segments
-pub mod Body
-pub mod Types
-pub mod Again

@@ -1,19 +1,13 @@
 -- Lists of which some elements are replaced one by one, from a place on: `paste` of the library says what is there after some of them.
-use Prim.Native.Nat.{ℕ, _+_, _≤_, _<_}
+use Prim.Native.Nat.{ℕ, _+_, _≤_}
 use mathlib.Core.List.{List, [], _++_}
 use mathlib.Core.Path.{_≡_, refl, sym, ap, _∙_}
 use native.Mathlib.Nat.{add-zero, le-refl}
-use native.Mathlib.Numerals.{add-one}
-use lib.ListN.{length, getD, set, take, drop, take-append-drop}
-use lib.Seq.{paste, paste-suc, length-paste, take-length}
+use lib.ListN.{length, take, drop, take-append-drop}
+use lib.Seq.{paste, length-paste, take-length}
 use Rattle.writes.specs.Segment.{inserted}
 
 module _ {A : Type 0} (old : List A) (at : ℕ) (new : List A) where
-  -- one more
-  pub paste-more : (j : ℕ) (x : A) → at + j < length old → j < length new → getD new j x ≡ x → set (paste old at new j) (at + j) x ≡ paste old at new (j + 1)
-  paste-more j x within less e =
-      ap (λ (y : A). set (paste old at new j) (at + j) y) (sym e) ∙ paste-suc old at new j x within less ∙ ap (paste old at new) (sym (add-one j))
-
   -- all of them
   pub paste-all : (n : ℕ) → n ≡ length new → paste old at new n ≡ inserted at new old
   paste-all n e = ap (paste old at new) e ∙ ap (λ (l : List A). take at old ++ l ++ drop (at + length new) old) (take-length new)

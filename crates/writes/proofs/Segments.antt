@@ -12,11 +12,11 @@ use Rattle.format.specs.declared.operation.WriteRecord.{WriteRecord}
 use Rattle.format.specs.Bytes.{byte, part}
 use Rattle.format.specs.Writes.{write}
 use Rattle.format.proofs.Checks.{or-false}
-use Rattle.agreement.proofs.Paced.{upward-at}
-use Rattle.agreement.proofs.Used.{length-upward}
+use Rattle.format.proofs.Lent.{paste-more}
+use Rattle.format.proofs.Writes.{length-upward, upward-at}
 use Rattle.writes.specs.declared.Segment.{Segment}
 use Rattle.writes.specs.Segment.{valuesOf, recordsOf, tooLong, fitting, inserted, segmentStored}
-use Rattle.writes.proofs.Lists.{paste-more, paste-all, length-inserted, inserted-none}
+use Rattle.writes.proofs.Lists.{paste-all, length-inserted, inserted-none}
 
 -- so many of a segment's records fit
 pub record Fitting (room at size : ℕ) (segment : Segment) (n : ℕ) : Type 0 where

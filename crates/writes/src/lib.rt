@@ -1,8 +1,7 @@
 // The lent run: a segment of write records, at successive addresses, of one value or of a part of the file, stored at a place.
+use big_endian::passes;
 use format::WriteRecord;
 ghost use mathlib.Core.Path.{_≡_};
-ghost use Prim.Native.Nat.{_+_};
-ghost use lib.Dec.{ltb};
 ghost use Rattle.writes.specs.Segment.{fitting, segmentStored};
 
 // `count` records to a target, upward from an address: of one value, or, where `copied`, of as many bytes of the file from a place.
@@ -13,19 +12,6 @@ pub struct Segment {
     pub copied: bool,
     pub value: u8,
     pub from: usize,
-}
-
-// Whether so many elements from a place on pass a size.
-pub fn passes(size: usize, at: usize, count: usize) -> bool
-    ensures { λ r. ⌜ r ≡ ltb size (at + count) ⌝ }
-{
-    if size < at {
-        return true;
-    }
-    if size - at < count {
-        return true;
-    }
-    false
 }
 
 // How many of a segment's records are stored: all of them if they fit into the run from a place on, into the addresses and, where

@@ -129,6 +129,10 @@ fn first(both: &mut [Writes; 2]) -> Option<(u64, [Option<WriteRecord>; 2])> {
     None
 }
 
+/// The bytes of a WRITE, a FILL and a COPY of version 2, and of a record of version 1, which is a WRITE without its opcode.
+const SIZES: [usize; 3] = [6, 10, 15];
+const RECORD_SIZE: usize = 5;
+
 /// The writes of records or operations of an accepted file of version 1 or 2.
 struct Writes<'a> {
     file: &'a [u8],
@@ -159,31 +163,35 @@ impl<'a> Writes<'a> {
         }
     }
 
-    /// Takes the next record or operation: the layouts of the format sheet.
+    /// Takes the next record or operation, field by field in the format sheet's order. The library's own reader of them is its crate
+    /// `fields`; no entry point exports it, because it reads without the rules.
     fn take_operation(&mut self) {
-        let operation = &self.file[self.at..];
-        // A record of version 1 has no opcode and is a WRITE.
-        let (opcode, opcode_size) = match self.header.version {
-            1 => (0, 0),
-            _ => (operation[0], 1),
+        let (file, mut place) = (self.file, self.at);
+        let mut take = |width: usize| {
+            place += width;
+            number(&file[place - width..place])
         };
-        let fields = &operation[opcode_size..];
-        self.write.target = fields[0];
-        self.write.address = number(&fields[1..4]);
-        let fields_at = self.at + opcode_size;
-        let size;
-        (self.writes, self.source, self.step, size) = match opcode {
-            0 => (1, fields_at + 4, 0, 5),
-            1 => (number(&fields[4..8]), fields_at + 8, 0, 9),
+        let (opcode, size) = match self.header.version {
+            1 => (0, RECORD_SIZE),
             _ => {
-                let id = number(&fields[4..6]) as u16;
-                let pool = pool_entry(self.file, self.header.directory_offset, id);
-                let source = pool.offset as usize + number(&fields[6..10]) as usize;
-                (number(&fields[10..14]), source, 1, 14)
+                let opcode = take(1) as usize;
+                (opcode, SIZES[opcode])
             }
         };
-        self.at = fields_at + size;
+        self.write.target = take(1) as u8;
+        self.write.address = take(3);
+        self.at += size;
         self.left -= 1;
+        // The value of a WRITE or a FILL is its last byte.
+        (self.writes, self.source, self.step) = match opcode {
+            0 => (1, self.at - 1, 0),
+            1 => (take(4), self.at - 1, 0),
+            _ => {
+                let pool = pool_entry(file, self.header.directory_offset, take(2) as u16);
+                let source = pool.offset as usize + take(4) as usize;
+                (take(4), source, 1)
+            }
+        };
         if self.cores_only && self.write.target > 1 {
             self.writes = 0;
         }

@@ -10,5 +10,4 @@ returns-2 : tie.Need-returns-2
 returns-2 c = simp (← (c .before .before .before .check-operation .ensures), c .before .refusal .given .1)
 
 pub allow-spec : {M : Type 1} → statement M
-allow-spec =
-    tie.close (tie.spec (search needs) (search needs) (search needs) returns returns-2)
+allow-spec = tie.close (tie.spec (search needs) (search needs) (search needs) returns returns-2)

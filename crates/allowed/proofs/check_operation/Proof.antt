@@ -13,6 +13,4 @@ returns-3 : tie.Need-returns-3
 returns-3 c = rw (c .before .before .operation3 .given .1) (c .check-copy .ensures)
 
 pub check-operation-spec : {M : Type 1} → statement M
-check-operation-spec =
-    tie.close
-    (tie.spec (search needs) (search needs) (search needs) (search needs) (search needs) (search needs) returns returns-2 returns-3)
+check-operation-spec = tie.close (tie.spec (search needs) (search needs) (search needs) (search needs) (search needs) (search needs) returns returns-2 returns-3)

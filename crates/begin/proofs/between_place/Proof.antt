@@ -1,27 +1,27 @@
--- `begin::between_place` meets its contract. Assumes nothing.
-use borrow.Author.Needs.{needs}
-use borrow.Author.Tests.{le-ltb, lt-ltb}
+-- `between_place` goes by the part of what is next, as the definition does.
+use borrow.Author.Tests.{eq-eqb, ne-eqb}
 use Rattle.begin.specs.Begin.{betweenPlace}
+use borrow.Author.Needs.{needs}
 use Rattle.begin.proofs.between_place.Statement.{statement}
 use Rattle.begin.proofs.between_place.Tie as tie
 
 returns : tie.Need-returns
 unfolding betweenPlace
-returns c = simp (c .before .before .if1 .taken, ← (c .opening-place .ensures))
+returns c =
+    let t = c .before .before in
+    simp (← (t .before .before .next-part .ensures .0), eq-eqb _ _ (t .if1 .taken)) (rw (c .before .opening-from .ensures) at (c .opening-place .ensures))
 
 returns-2 : tie.Need-returns-2
 unfolding betweenPlace
-returns-2 c = simp (c .before .before .before .before .if1 .left, lt-ltb _ _ (c .before .if2 .taken), ← (c .frame-at .ensures .0))
+returns-2 c =
+    let t = c .before .before .before in
+    simp (← (t .before .before .next-part .ensures .0), ne-eqb _ _ (t .if1 .left), eq-eqb _ _ (c .before .if2 .taken), ← (c .frame-at .ensures .0))
 
 returns-3 : tie.Need-returns-3
 unfolding betweenPlace
-returns-3 c = simp (c .before .before .before .before .before .if1 .left, le-ltb _ _ (c .before .before .if2 .left), c .before .if3 .taken, ← (c .frame-at2 .ensures .0))
-
-returns-4 : tie.Need-returns-4
-unfolding betweenPlace
-returns-4 c = simp (c .before .before .before .before .before .if1 .left, le-ltb _ _ (c .before .before .if2 .left), c .before .if3 .left, ← (c .closing-from .ensures))
+returns-3 c =
+    let t = c .before .before .before in
+    simp (← (t .before .before .next-part .ensures .0), ne-eqb _ _ (t .if1 .left), ne-eqb _ _ (c .before .if2 .left), ← (c .closing-from .ensures))
 
 pub between-place-spec : {M : Type 1} → statement M
-between-place-spec =
-    tie.close
-    (tie.spec (search needs) (search needs) returns (search needs) returns-2 (search needs) returns-3 (search needs) returns-4)
+between-place-spec = tie.close (tie.spec (search needs) (search needs) (search needs) returns (search needs) returns-2 (search needs) returns-3)

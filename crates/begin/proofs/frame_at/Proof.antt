@@ -21,6 +21,4 @@ unfolding frameAt
 returns-2 c = (simp (← (c .before .before .before .passes .ensures), c .before .before .if1 .left, ← (c .before .read-u16 .ensures), ← (c .frame-place .ensures)), rw (c .frame-place .ensures) (omega arith))
 
 pub frame-at-spec : {M : Type 1} → statement M
-frame-at-spec =
-    tie.close
-    (tie.spec (search needs) (search needs) returns (search needs) (search needs) add-frame-place (search needs) returns-2)
+frame-at-spec = tie.close (tie.spec (search needs) (search needs) returns (search needs) (search needs) add-frame-place (search needs) returns-2)

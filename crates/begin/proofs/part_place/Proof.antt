@@ -18,4 +18,5 @@ returns-4 c = simp (← (c .before .before .before .part-of .ensures), c .before
 pub part-place-spec : {M : Type 1} → statement M
 part-place-spec =
     tie.close
-    (tie.spec (search needs) (search needs) (search needs) (search needs) (search needs) (search needs) (search needs) (search needs) (search needs) (search needs) (search needs) returns returns-2 returns-3 returns-4)
+    (tie.spec (search needs) (search needs) (search needs) (search needs) (search needs) (search needs) (search needs) (search needs) (search needs) (search needs) (search needs) returns
+    returns-2 returns-3 returns-4)

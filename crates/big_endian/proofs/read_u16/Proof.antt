@@ -12,6 +12,4 @@ cast-result : tie.Need-cast-result
 cast-result c = let s = c .before .before .before in let a = s .before .args in omega (arith, be-below 2 (a .file .now) (a .at) (λ i. s .shared-slice-known .given i .fits))
 
 pub read-u16-spec : {M : Type 1} → statement M
-read-u16-spec =
-    tie.close
-    (tie.spec returns (search needs) (search needs) cast-result (search needs) (search needs) (search needs) (search needs))
+read-u16-spec = tie.close (tie.spec returns (search needs) (search needs) cast-result (search needs) (search needs) (search needs) (search needs))

@@ -9,5 +9,4 @@ returns : tie.Need-returns
 returns c = let a = c .before .before .args in be-past 3 (a .file .now) (a .at) (omega arith)
 
 pub read-u24-spec : {M : Type 1} → statement M
-read-u24-spec =
-    tie.close (tie.spec returns (search needs) (search needs) (search needs) (search needs) (search needs))
+read-u24-spec = tie.close (tie.spec returns (search needs) (search needs) (search needs) (search needs) (search needs))

@@ -9,5 +9,4 @@ returns : tie.Need-returns
 returns c = let a = c .before .before .args in be-past 4 (a .file .now) (a .at) (omega arith)
 
 pub read-u32-spec : {M : Type 1} → statement M
-read-u32-spec =
-    tie.close (tie.spec returns (search needs) (search needs) (search needs) (search needs) (search needs))
+read-u32-spec = tie.close (tie.spec returns (search needs) (search needs) (search needs) (search needs) (search needs))

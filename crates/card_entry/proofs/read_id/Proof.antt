@@ -32,6 +32,4 @@ returns c =
     rw (l .loop .inv .1, all) (padded-full 16 0 (part (a .file .now) (a .at) 16) (part-length (a .file .now) (a .at) 16 (omega arith)))
 
 pub read-id-spec : {M : Type 1} → statement M
-read-id-spec =
-    tie.close
-    (tie.spec Inv-loop μ-loop loop-holds (search needs) (search needs) (search needs) (search needs) (search needs) loop-again returns)
+read-id-spec = tie.close (tie.spec Inv-loop μ-loop loop-holds (search needs) (search needs) (search needs) (search needs) (search needs) loop-again returns)

@@ -18,9 +18,6 @@ Inv-loop id-length id some₀ i₀ some i =
 abbrev μ-loop : tie.MeasureT-loop
 μ-loop id-length id some₀ i₀ some i = 16 - i
 
-loop-holds : tie.Need-loop-holds Inv-loop μ-loop
-loop-holds c = (omega arith, padding-first (c .args .t1) (c .args .id-length))
-
 loop-again : tie.Need-loop-again Inv-loop μ-loop
 loop-again c =
     let l = c .before .before in
@@ -36,4 +33,4 @@ returns c =
 pub padding-wrong-spec : {M : Type 1} → statement M
 padding-wrong-spec =
     tie.close
-    (tie.spec Inv-loop μ-loop loop-holds (search needs) (search needs) (search needs) (search needs) loop-again returns)
+    (tie.spec Inv-loop μ-loop (λ c. (omega arith, padding-first (c .args .t1) (c .args .id-length))) (search needs) (search needs) (search needs) (search needs) loop-again returns)

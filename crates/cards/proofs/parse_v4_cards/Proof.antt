@@ -29,7 +29,8 @@ returns-2 c =
     let l = c .before .before .before .before .before .before in
     let s = l .before .before .before .args in
     c .refused-card2 .ensures
-    ∙ sym (seen-wrong (s .file .now) (s .count) (l .loop .cards) (l .loop .least) (l .loop .i) (omega arith) (l .loop .inv .1) (rw (le-ltb _ _ (c .before .before .before .before .if1 .left), ← (c .before .before .before .read-card .ensures), ← (c .before .before .card-wrong .ensures), c .before .if2 .taken)))
+    ∙ sym (seen-wrong (s .file .now) (s .count) (l .loop .cards) (l .loop .least) (l .loop .i) (omega arith) (l .loop .inv .1)
+    (rw (le-ltb _ _ (c .before .before .before .before .if1 .left), ← (c .before .before .before .read-card .ensures), ← (c .before .before .card-wrong .ensures), c .before .if2 .taken)))
 
 mul-cards : tie.Need-mul-cards Inv-loop μ-loop
 mul-cards c =
@@ -52,8 +53,11 @@ add-least c =
 loop-again : tie.Need-loop-again Inv-loop μ-loop
 loop-again c =
     let l = c .before .before .before .before .before .before in
-    let s = l .before .before .before .args in
-    (refl, rw (c .before .before .before .read-card .ensures) (seen-next (s .file .now) (s .count) (l .loop .cards) (l .loop .least) (l .loop .i) (omega arith) (l .loop .inv .1) (omega arith) (rw (← (c .before .before .before .read-card .ensures), ← (c .before .before .card-wrong .ensures)) (c .before .if2 .left))))
+    let s = l .before .before .before .args in (
+      refl,
+      rw (c .before .before .before .read-card .ensures) (seen-next (s .file .now) (s .count) (l .loop .cards) (l .loop .least) (l .loop .i) (omega arith) (l .loop .inv .1) (omega arith)
+          (rw (← (c .before .before .before .read-card .ensures), ← (c .before .before .card-wrong .ensures)) (c .before .if2 .left))),
+    )
 
 returns-3 : tie.Need-returns-3 Inv-loop μ-loop
 returns-3 c =
@@ -64,4 +68,5 @@ returns-3 c =
 pub parse-v4-cards-spec : {M : Type 1} → statement M
 parse-v4-cards-spec =
     tie.close
-    (tie.spec Inv-loop μ-loop (search needs) loop-holds (search needs) (search needs) (search needs) (search needs) returns (search needs) (search needs) (search needs) returns-2 mul-cards array-set-from-cards add-least (search needs) (search needs) loop-again returns-3)
+    (tie.spec Inv-loop μ-loop (search needs) loop-holds (search needs) (search needs) (search needs) (search needs) returns (search needs) (search needs) (search needs) returns-2 mul-cards
+    array-set-from-cards add-least (search needs) (search needs) loop-again returns-3)

@@ -29,13 +29,25 @@ returns-5 c = search (decided, ← (c .before .before .before .before .missing .
 
 returns-6 : tie.Need-returns-6
 unfolding copyRules
-returns-6 c = simp (← (c .before .before .before .before .before .before .before .missing .ensures), c .before .before .before .before .before .before .if1 .left, ← (c .before .before .before .before .before .outside .ensures), c .before .before .before .before .if2 .left, and-false, lt-leb _ _ (c .before .before .before .if5 .left), ← (c .before .before .read-pool .ensures), ← (c .before .copy-wrong .ensures), c .if6 .taken)
+returns-6 c =
+    simp (
+      ← (c .before .before .before .before .before .before .before .missing .ensures),
+      c .before .before .before .before .before .before .if1 .left,
+      ← (c .before .before .before .before .before .outside .ensures),
+      c .before .before .before .before .if2 .left,
+      and-false,
+      lt-leb _ _ (c .before .before .before .if5 .left),
+      ← (c .before .before .read-pool .ensures),
+      ← (c .before .copy-wrong .ensures),
+      c .if6 .taken,
+    )
 
 returns-7 : tie.Need-returns-7
 unfolding copyRules
-returns-7 c = search (decided, ← (c .before .before .before .before .before .before .before .missing .ensures), c .before .before .before .before .before .before .if1 .left, ← (c .before .before .before .before .before .outside .ensures), c .before .before .before .before .if2 .left, and-false, ← (c .before .before .read-pool .ensures), ← (c .before .copy-wrong .ensures), c .if6 .left)
+returns-7 c =
+    let t = c .before .before in
+    let u = t .before .before .before in
+    search (decided, ← (u .before .before .missing .ensures), u .before .if1 .left, ← (u .outside .ensures), t .before .before .if2 .left, and-false, ← (t .read-pool .ensures), ← (c .before .copy-wrong .ensures), c .if6 .left)
 
 pub check-copy-spec : {M : Type 1} → statement M
-check-copy-spec =
-    tie.close
-    (tie.spec (search needs) returns (search needs) returns-2 returns-3 returns-4 returns-5 (search needs) (search needs) returns-6 returns-7)
+check-copy-spec = tie.close (tie.spec (search needs) returns (search needs) returns-2 returns-3 returns-4 returns-5 (search needs) (search needs) returns-6 returns-7)

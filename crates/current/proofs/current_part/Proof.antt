@@ -15,13 +15,12 @@ returns-2 c = simp (c .before .before .before .if1 .left, ← (c .before .before
 
 returns-3 : tie.Need-returns-3
 unfolding currentOf
-returns-3 c = simp (c .before .before .before .before .before .if1 .left, ← (c .before .before .before .before .foreign .ensures), c .before .before .before .if2 .left, eq-eqb _ _ (c .before .if3 .taken), ← (c .current-between .ensures))
+returns-3 c =
+    simp (c .before .before .before .before .before .if1 .left, ← (c .before .before .before .before .foreign .ensures), c .before .before .before .if2 .left, eq-eqb _ _ (c .before .if3 .taken), ← (c .current-between .ensures))
 
 returns-4 : tie.Need-returns-4
 unfolding currentOf
 returns-4 c = simp (c .before .before .before .before .before .if1 .left, ← (c .before .before .before .before .foreign .ensures), c .before .before .before .if2 .left, ne-eqb _ _ (c .before .if3 .left), ← (c .under-way .ensures))
 
 pub current-part-spec : {M : Type 1} → statement M
-current-part-spec =
-    tie.close
-    (tie.spec (search needs) returns (search needs) (search needs) returns-2 (search needs) returns-3 (search needs) returns-4)
+current-part-spec = tie.close (tie.spec (search needs) returns (search needs) (search needs) returns-2 (search needs) returns-3 (search needs) returns-4)

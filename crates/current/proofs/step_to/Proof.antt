@@ -1,7 +1,7 @@
--- `current::step_to` meets its contract. Assumes nothing.
-use borrow.Author.Needs.{needs}
+-- `step_to` goes by whether an operation is left.
 use borrow.Author.Tests.{eq-eqb, ne-eqb}
 use Rattle.current.specs.Step.{stepTo}
+use borrow.Author.Needs.{needs}
 use Rattle.current.proofs.step_to.Statement.{statement}
 use Rattle.current.proofs.step_to.Tie as tie
 
@@ -11,7 +11,7 @@ returns c = simp (eq-eqb _ _ (c .before .if1 .taken), ← (c .step-to-end .ensur
 
 returns-2 : tie.Need-returns-2
 unfolding stepTo
-returns-2 c = simp (ne-eqb _ _ (c .before .if1 .left))
+returns-2 c = simp (ne-eqb _ _ (c .before .before .before .if1 .left), ← (c .onward-to .ensures))
 
 pub step-to-spec : {M : Type 1} → statement M
-step-to-spec = tie.close (tie.spec (search needs) returns (search needs) returns-2)
+step-to-spec = tie.close (tie.spec (search needs) returns (search needs) (search needs) returns-2)

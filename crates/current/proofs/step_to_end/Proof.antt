@@ -1,7 +1,7 @@
--- `current::step_to_end` meets its contract. Assumes nothing.
-use borrow.Author.Needs.{needs}
+-- `step_to_end` takes no call that ends the opening.
 use borrow.Author.Tests.{eq-eqb, ne-eqb}
 use Rattle.current.specs.Step.{stepEnding}
+use borrow.Author.Needs.{needs}
 use Rattle.current.proofs.step_to_end.Statement.{statement}
 use Rattle.current.proofs.step_to_end.Tie as tie
 
@@ -11,7 +11,7 @@ returns c = simp (eq-eqb _ _ (c .before .if1 .taken), ← (c .no-step .ensures))
 
 returns-2 : tie.Need-returns-2
 unfolding stepEnding
-returns-2 c = simp (ne-eqb _ _ (c .if1 .left))
+returns-2 c = simp (ne-eqb _ _ (c .before .if1 .left), ← (c .between-at .ensures))
 
 pub step-to-end-spec : {M : Type 1} → statement M
-step-to-end-spec = tie.close (tie.spec (search needs) returns returns-2)
+step-to-end-spec = tie.close (tie.spec (search needs) returns (search needs) returns-2)

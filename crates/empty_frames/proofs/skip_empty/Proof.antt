@@ -52,6 +52,4 @@ returns-3 c =
     rw (l .loop .inv) (sym (skip-last (l .before .before .args .file .now) (l .loop .left) (l .loop .at) (omega arith)))
 
 pub skip-empty-spec : {M : Type 1} → statement M
-skip-empty-spec =
-    tie.close
-    (tie.spec Inv-loop μ-loop loop-holds (search needs) returns (search needs) returns-2 add-at (search needs) (search needs) loop-again returns-3)
+skip-empty-spec = tie.close (tie.spec Inv-loop μ-loop loop-holds (search needs) returns (search needs) returns-2 add-at (search needs) (search needs) loop-again returns-3)

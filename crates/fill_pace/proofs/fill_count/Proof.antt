@@ -1,46 +1,50 @@
--- `fill_pace::fill_count` meets its contract. Assumes nothing.
+-- `fill_pace::fill_count` meets its contract: the numbers that it reads are the operation's, and its tests decide the definition's.
 use borrow.Author.Needs.{needs}
-use native.Mathlib.Omega.{arith}
 use borrow.Author.Tests.{lt-ltb, le-ltb}
-use mathlib.Core.Path.{_≡_}
-use Rattle.format.specs.Bytes.{be}
+use mathlib.Core.Path.{_≡_, _∙_}
+use mathlib.Core.Bool.{cond}
+use Prim.Native.Nat.{_≤_}
+use Rattle.format.specs.Bytes.{byte}
+use Rattle.fields_known.proofs.Laws.{fill-length}
+use Rattle.fields.specs.Decoded.{decodedOperation}
 use Rattle.fill_pace.specs.Fills.{fillCount}
-use Rattle.fill_pace.proofs.Counts.{address-is}
 use Rattle.fill_pace.proofs.fill_count.Statement.{statement}
 use Rattle.fill_pace.proofs.fill_count.Tie as tie
 
--- the address
-addressed : (b : tie.After-address-by) → b .address-by .result ≡ be (b .before .before .before .before .before .before .before .args .width) (b .before .before .before .before .before .before .before .args .bytes .now) 2
-addressed b =
-    let k = b .before .before .before .before .before .before in
-    let a = k .before .args in
-    rw (b .address-by .ensures, b .before .read-u32 .ensures) (address-is (a .width) (a .bytes .now) 2 (omega (arith, k .shared-slice-known .given 5)) (omega arith) (omega arith))
-
-returns : tie.Need-returns
-unfolding fillCount
-returns c = simp (← (c .before .before .byte-at .ensures), lt-ltb _ _ (c .if1 .taken))
-
 returns-2 : tie.Need-returns-2
-unfolding fillCount
-returns-2 c = simp (← (c .before .before .before .byte-at .ensures), ← (c .before .before .byte-at2 .ensures), le-ltb _ _ (c .before .if1 .left), lt-ltb _ _ (c .if2 .taken))
+unfolding fillCount decodedOperation
+returns-2 c =
+    let t = c .before .before in
+    simp (← (t .before .opcode-in .ensures), ← (t .target-in .ensures), le-ltb _ _ (c .before .if1 .left), lt-ltb _ _ (c .if2 .taken))
 
-returns-3 : tie.Need-returns-3
-unfolding fillCount
-returns-3 c =
-    let o = c .before in
-    let n = o .before .before .before in
-    let u = n .before in
-    simp (← (addressed (u .before)), ← (u .before .before .before .before .before .before .byte-at .ensures), ← (u .before .before .before .before .before .byte-at2 .ensures), le-ltb _ _ (u .before .before .before .before .if1 .left), le-ltb _ _ (u .before .before .before .if2 .left), ← (u .read-u322 .ensures), ← (n .by-opcode .ensures), ← (o .out-of-bulk .ensures), c .if3 .taken)
-
-returns-4 : tie.Need-returns-4
-unfolding fillCount
-returns-4 c =
-    let o = c .before in
-    let n = o .before .before .before in
-    let u = n .before in
-    simp (← (addressed (u .before)), ← (u .before .before .before .before .before .before .byte-at .ensures), ← (u .before .before .before .before .before .byte-at2 .ensures), le-ltb _ _ (u .before .before .before .before .if1 .left), le-ltb _ _ (u .before .before .before .if2 .left), ← (u .read-u322 .ensures), ← (n .by-opcode .ensures), ← (o .out-of-bulk .ensures), c .if3 .left)
+-- the definition where the first two tests let it pass, over the numbers that were read
+read : (c : tie.After-out-of-bulk) → (
+    let n = c .before .before .before in
+    let o = n .before .before .before .before .before in
+    let s = o .before .before .args in
+    fillCount (decodedOperation (s .width) (s .bytes .now)) (s .starts .now) (s .ends .now) ≡ cond (c .out-of-bulk .result) 0 (n .fill-length-in .result))
+unfolding fillCount decodedOperation
+read c =
+    let n = c .before .before .before in
+    let a = n .before in
+    let e = a .before in
+    let t = e .before .before in
+    let s = t .before .before .before .args in
+    let low : byte (s .bytes .now) 0 ≤ 1 = rw (← (t .before .opcode-in .ensures)) (e .before .if1 .left) in
+    rw (
+      ← (n .fill-length-in .ensures ∙ fill-length (s .width) (s .bytes .now) low),
+      ← (a .address-in .ensures),
+      ← (t .target-in .ensures),
+      ← (t .before .opcode-in .ensures),
+      le-ltb _ _ (e .before .if1 .left),
+      le-ltb _ _ (e .if2 .left),
+      ← (c .out-of-bulk .ensures),
+    )
 
 pub fill-count-spec : {M : Type 1} → statement M
+unfolding fillCount decodedOperation
 fill-count-spec =
     tie.close
-    (tie.spec (search needs) (search needs) returns returns-2 (search needs) (search needs) (search needs) (search needs) (search needs) (search needs) (search needs) (search needs) (search needs) (search needs) (search needs) (search needs) (search needs) (search needs) returns-3 returns-4)
+    (tie.spec (search needs) (search needs) (λ c. simp (← (c .before .before .opcode-in .ensures), lt-ltb _ _ (c .if1 .taken))) returns-2 (search needs) (search needs) (search needs)
+    (search needs) (search needs) (search needs) (search needs) (search needs) (search needs) (search needs) (search needs) (λ c. rw (read (c .before), c .if3 .taken))
+    (λ c. rw (read (c .before), c .if3 .left)))

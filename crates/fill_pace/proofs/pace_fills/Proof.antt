@@ -24,6 +24,4 @@ returns-3 c =
     rw (le-leb 2 v (e .before .if1 .left), le-leb v 4 (e .if2 .left), c .fills-from .ensures, w .address-width .ensures .0, r .address-ranges .ensures .0, r .address-ranges .ensures .1)
 
 pub pace-fills-spec : {M : Type 1} → statement M
-pace-fills-spec =
-    tie.close
-    (tie.spec (search needs) returns (search needs) returns-2 (search needs) (search needs) (search needs) returns-3)
+pace-fills-spec = tie.close (tie.spec (search needs) returns (search needs) returns-2 (search needs) (search needs) (search needs) returns-3)

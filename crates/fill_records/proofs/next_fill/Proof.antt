@@ -1,4 +1,4 @@
--- `fill_records::next_fill` meets its contract. Assumes nothing.
+-- `fill_records::next_fill` meets its contract: another record of the operation, or the first one of the next where 16 bytes stand there.
 use Prim.Native.Nat.{_+_, _≤_}
 use mathlib.Core.Path.{sym, _∙_}
 use borrow.Author.Needs.{needs}
@@ -8,10 +8,6 @@ use lib.ListN.{length}
 use Rattle.fill_records.specs.Records.{nextFill}
 use Rattle.fill_records.proofs.next_fill.Statement.{statement}
 use Rattle.fill_records.proofs.next_fill.Tie as tie
-
--- 16 bytes stand at the cursor
-within : (c : tie.Else2) → c .before .before .before .before .before .args .place .cursor + 16 ≤ length (c .before .before .before .before .before .args .file .now)
-within c = ltb-false _ _ (sym (c .before .passes .ensures) ∙ c .if2 .left)
 
 returns : tie.Need-returns
 unfolding nextFill
@@ -23,23 +19,25 @@ returns-2 c =
     let p = c .before .before in
     rw (le-ltb _ _ (p .before .if1 .left), ← (p .passes .ensures), c .before .if2 .taken) (c .fill-place .ensures)
 
-window-requires : tie.Need-window-requires
-window-requires c κs = within c
+-- 16 bytes stand at the cursor
+within : (c : tie.Else2) → c .before .before .before .before .before .args .place .cursor + 16 ≤ length (c .before .before .before .before .before .args .file .now)
+within c = ltb-false _ _ (sym (c .before .passes .ensures) ∙ c .if2 .left)
 
-decoded-requires : tie.Need-decoded-requires
-decoded-requires c κs =
-    let e = c .before .before in
-    let a = e .before .before .before .before .before .args in
-    (c .address-width .ensures .1, c .address-width .ensures .2, omega (arith, within e))
+window-requires : tie.Need-window-requires
+window-requires c κs = within (c .before)
+
+first-record-requires : tie.Need-first-record-requires
+first-record-requires c κs =
+    let w = c .before in
+    (w .address-width .ensures .1, w .address-width .ensures .2, omega (arith, within (w .before)))
 
 returns-3 : tie.Need-returns-3
 unfolding nextFill
 returns-3 c =
-    let w = c .before .before in
+    let b = c .before in
+    let w = b .before in
     let p = w .before .before in
-    rw (le-ltb _ _ (p .before .if1 .left), ← (p .passes .ensures), w .before .if2 .left, ← (w .window .ensures), ← (c .before .address-width .ensures .0)) (c .decoded .ensures)
+    rw (le-ltb _ _ (p .before .if1 .left), ← (p .passes .ensures), w .before .if2 .left, ← (b .window .ensures), ← (w .address-width .ensures .0)) (c .first-record .ensures)
 
 pub next-fill-spec : {M : Type 1} → statement M
-next-fill-spec =
-    tie.close
-    (tie.spec (search needs) returns (search needs) (search needs) returns-2 window-requires (search needs) decoded-requires returns-3)
+next-fill-spec = tie.close (tie.spec (search needs) returns (search needs) (search needs) returns-2 (search needs) window-requires first-record-requires returns-3)

@@ -1,11 +1,12 @@
--- `fill_step` meets its contract. Assumes nothing.
+-- `fill_step` tests what the definition tests, in its order. No more operations and no more room are left than there were, so that its
+-- differences are numbers.
 use borrow.Author.Needs.{needs}
 use borrow.Author.Tests.{le-ltb, lt-ltb}
 use native.Mathlib.Omega.{arith}
 use Prim.Native.Nat.{_≤_}
 use Rattle.format.specs.Card.{cardsOf}
 use Rattle.fill_pace.proofs.Steps.{fills-fewer}
-use Rattle.fill_step.specs.FillStep.{leftOf, fillStep}
+use Rattle.fill_step.specs.FillStep.{fillStep}
 use Rattle.fill_step.proofs.fill_step.Statement.{statement}
 use Rattle.fill_step.proofs.fill_step.Tie as tie
 
@@ -17,35 +18,37 @@ returns-2 : tie.Need-returns-2
 unfolding fillStep
 returns-2 c =
     let b = c .before .before in
-    simp (b .before .if1 .left, ← (b .byte-at .ensures), lt-ltb _ _ (c .before .if2 .taken), ← (c .no-step2 .ensures))
+    simp (b .before .before .if1 .left, ← (b .byte-at .ensures), lt-ltb _ _ (c .before .if2 .taken), ← (c .no-step2 .ensures))
 
 returns-3 : tie.Need-returns-3
 unfolding fillStep
 returns-3 c =
     let k = c .before .before .before in
-    let b = k .before .before in
-    simp (b .before .before .if1 .left, ← (b .before .byte-at .ensures), le-ltb _ _ (b .if2 .left), ← (k .pace-fills .ensures), c .before .if3 .taken, ← (c .no-step3 .ensures))
+    let t = k .before .before in
+    let b = t .before in
+    simp (b .before .before .if1 .left, ← (b .byte-at .ensures), le-ltb _ _ (t .if2 .left), ← (k .before .operations-left .ensures .0), ← (k .pace-fills .ensures), c .before .if3 .taken, ← (c .no-step3 .ensures))
 
--- no more operations and no more room are left than there were
-fewer : (c : tie.After-struct-known3) → (c .before .before .before .pace-fills .result .left ≤ leftOf (c .before .before .before .before .before .before .before .before .before .args .current)) × (c .before .before .before .pace-fills .result .room ≤ c .before .before .before .before .before .before .before .before .before .args .room)
+fewer : (c : tie.After-struct-known2)
+    → (c .before .before .before .pace-fills .result .left ≤ c .before .before .before .before .operations-left .result)
+    × (c .before .before .before .pace-fills .result .room ≤ c .before .before .before .before .before .before .before .before .before .before .args .room)
 fewer c =
     let k = c .before .before .before in
-    let a = k .before .before .before .before .before .before .args in
-    fills-fewer (a .file .now) (a .version) (cardsOf (a .cards)) (a .current .limit) (leftOf (a .current)) (a .room) (a .current .cursor) (a .current .«write_index») (k .pace-fills .result) (k .pace-fills .ensures)
+    let a = k .before .before .before .before .before .before .before .args in
+    fills-fewer (a .file .now) (a .version) (cardsOf (a .cards)) (a .current .limit) (k .before .operations-left .result) (a .room) (a .current .at .cursor) (a .current .at .«write_index») (k .pace-fills .result) (k .pace-fills .ensures)
 
 sub-count : tie.Need-sub-count
 sub-count c = fewer c .1
 
 step-to-requires : tie.Need-step-to-requires
-step-to-requires c κs = omega (arith, fewer c .0)
+step-to-requires c κs = omega (arith, fewer c .0, c .before .before .before .before .operations-left .ensures .0)
 
 returns-4 : tie.Need-returns-4
 unfolding fillStep
 returns-4 c =
-    let e = c .before .before in
-    let k = e .before .before in
-    let b = k .before .before in
-    simp (b .before .before .if1 .left, ← (b .before .byte-at .ensures), le-ltb _ _ (b .if2 .left), ← (k .pace-fills .ensures), e .if3 .left, ← (c .step-to .ensures))
+    let k = c .before .before .before .before in
+    let t = k .before .before in
+    let b = t .before in
+    simp (b .before .before .if1 .left, ← (b .byte-at .ensures), le-ltb _ _ (t .if2 .left), ← (k .before .operations-left .ensures .0), ← (k .pace-fills .ensures), c .before .before .if3 .left, ← (c .step-to .ensures))
 
 pub fill-step-spec : {M : Type 1} → statement M
 fill-step-spec =

@@ -24,11 +24,11 @@ use Rattle.frames.proofs.check_frames.Statement.{statement}
 use Rattle.frames.proofs.check_frames.Tie as tie
 
 abbrev Inv-loop : tie.InvT-loop
-Inv-loop file header cards limits starts ends kinds si22 version pools directory at₀ left₀ seen₀ at left seen =
+Inv-loop file header cards table si22 version pools directory at₀ left₀ seen₀ at left seen =
     framesSaid (settingOf file header cards) file (header .«frame_count») (header .«frame_start») si22 ≡ framesSaid (settingOf file header cards) file left at seen
 
 abbrev μ-loop : tie.MeasureT-loop
-μ-loop file header cards limits starts ends kinds si22 version pools directory at₀ left₀ seen₀ at left seen = left
+μ-loop file header cards table si22 version pools directory at₀ left₀ seen₀ at left seen = left
 
 loop-holds : tie.Need-loop-holds Inv-loop μ-loop
 loop-holds c = refl
@@ -54,7 +54,8 @@ first : (k : tie.After-skip-empty Inv-loop μ-loop)
     let setting = settingOf (s .file .now) (s .header) (s .cards) in
     let next = k .skip-empty .result in
     framesSaid setting (s .file .now) (s .header .«frame_count») (s .header .«frame_start») (s .si22)
-    ≡ (refuse 14 (next .at) (ltb (length (s .file .now)) (next .at + 2)) >> (walked setting (s .file .now) (length (s .file .now)) (be 2 (s .file .now) (next .at)) (next .at + 2) >>= λ (frame : ℕ × Bool). framesSaid setting (s .file .now) (next .left - 1) (frame .0) (l .loop .seen || frame .1)))
+    ≡ (refuse 14 (next .at) (ltb (length (s .file .now)) (next .at + 2))
+    >> (walked setting (s .file .now) (length (s .file .now)) (be 2 (s .file .now) (next .at)) (next .at + 2) >>= λ (frame : ℕ × Bool). framesSaid setting (s .file .now) (next .left - 1) (frame .0) (l .loop .seen || frame .1)))
 first k =
     let l = k .before .before in
     let s = l .before .before .args in
@@ -85,7 +86,14 @@ step f =
     let start = k .before .before .before .before in
     let s = start .args in
     let h = s .header in
-    rw (first k, ← (read .before .before .count-cut-off .ensures), read .before .if1 .left, ← (read .read-u16 .ensures), quick-ran (h .version) (cardsOf (s .cards)) (h .«pool_count») (h .«directory_offset») (s .file .now) (s .limits .now) (s .starts .now) (s .ends .now) (s .kinds .now) (length (s .file .now)) (read .read-u16 .result) (k .skip-empty .result .at + 2) (start .pre), ← (f .frame-run .ensures))
+    rw (
+      first k,
+      ← (read .before .before .count-cut-off .ensures),
+      read .before .if1 .left,
+      ← (read .read-u16 .ensures),
+      quick-ran (h .version) (cardsOf (s .cards)) (h .«pool_count») (h .«directory_offset») (s .file .now) (s .table .now) (length (s .file .now)) (read .read-u16 .result) (k .skip-empty .result .at + 2) (start .pre),
+      ← (f .frame-run .ensures),
+    )
 
 -- operations that were not passed quickly
 slow : (c : tie.After-check-operations Inv-loop μ-loop)
@@ -95,7 +103,8 @@ slow : (c : tie.After-check-operations Inv-loop μ-loop)
     let s = l .before .before .args in
     let setting = settingOf (s .file .now) (s .header) (s .cards) in
     framesSaid setting (s .file .now) (s .header .«frame_count») (s .header .«frame_start») (s .si22)
-    ≡ (mapped {B = ℕ × Bool} (λ (found : ℕ × Bool). (found .0, f .frame-run .result .si22 || found .1)) (walkedOf (c .check-operations .result)) >>= λ (frame : ℕ × Bool). framesSaid setting (s .file .now) (k .skip-empty .result .left - 1) (frame .0) (l .loop .seen || frame .1))
+    ≡ (mapped {B = ℕ × Bool} (λ (found : ℕ × Bool). (found .0, f .frame-run .result .si22 || found .1)) (walkedOf (c .check-operations .result)) >>= λ (frame : ℕ × Bool).
+    framesSaid setting (s .file .now) (k .skip-empty .result .left - 1) (frame .0) (l .loop .seen || frame .1))
 slow c =
     let f = c .before .before .before .before in
     let s = f .before .before .before .before .before .before .before .before .before .args in
@@ -137,4 +146,5 @@ returns-3 c =
 pub check-frames-spec : {M : Type 1} → statement M
 check-frames-spec =
     tie.close
-    (tie.spec Inv-loop μ-loop loop-holds (search needs) (search needs) returns (search needs) (search needs) add-frame-run (search needs) (search needs) (search needs) (search needs) (search needs) (search needs) returns-2 sub-left loop-less loop-again returns-3)
+    (tie.spec Inv-loop μ-loop loop-holds (search needs) (search needs) returns (search needs) (search needs) add-frame-run (search needs) (search needs) (search needs) (search needs)
+    (search needs) (search needs) returns-2 sub-left loop-less loop-again returns-3)

@@ -9,7 +9,7 @@ use Rattle.frames.proofs.frame_run.Tie as tie
 returns : tie.Need-returns
 returns c =
     let a = c .before .before .args in
-    rw (c .if1 .taken) (sym (quick-none (a .version) (a .pools) (a .directory) (a .file .now) (a .limits .now) (a .starts .now) (a .ends .now) (a .kinds .now) (length (a .file .now)) (a .at)))
+    rw (c .if1 .taken) (sym (quick-none (a .version) (a .pools) (a .directory) (a .file .now) (a .table .now) (length (a .file .now)) (a .at)))
 
 pub frame-run-spec : {M : Type 1} → statement M
 frame-run-spec = tie.close (tie.spec returns (search needs) (λ c. search needs))

@@ -5,13 +5,6 @@ use Rattle.format.specs.Header.{periodOf}
 use Rattle.header_fields.proofs.period_of.Statement.{statement}
 use Rattle.header_fields.proofs.period_of.Tie as tie
 
-returns : tie.Need-returns
-unfolding periodOf
-returns c = simp (eq-eqb _ _ (c .before .if1 .taken), ← (c .read-u32 .ensures))
-
-returns-2 : tie.Need-returns-2
-unfolding periodOf
-returns-2 c = simp (ne-eqb _ _ (c .if1 .left))
-
 pub period-of-spec : {M : Type 1} → statement M
-period-of-spec = tie.close (tie.spec (search needs) returns returns-2)
+unfolding periodOf
+period-of-spec = tie.close (tie.spec (search needs) (λ c. simp (eq-eqb _ _ (c .before .if1 .taken), ← (c .read-u32 .ensures))) (λ c. simp (ne-eqb _ _ (c .if1 .left))))

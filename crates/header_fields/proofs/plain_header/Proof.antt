@@ -9,6 +9,4 @@ unfolding plainHeader
 returns c = simp (← (c .before .before .before .read-u32 .ensures), ← (c .before .before .byte-at .ensures), ← (c .before .read-u322 .ensures), ← (c .read-u323 .ensures))
 
 pub plain-header-spec : {M : Type 1} → statement M
-plain-header-spec =
-    tie.close
-    (tie.spec (search needs) (search needs) (search needs) (search needs) (search needs) (search needs) (search needs) returns)
+plain-header-spec = tie.close (tie.spec (search needs) (search needs) (search needs) (search needs) (search needs) (search needs) (search needs) returns)

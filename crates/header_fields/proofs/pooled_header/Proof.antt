@@ -6,7 +6,19 @@ use Rattle.header_fields.proofs.pooled_header.Tie as tie
 
 returns : tie.Need-returns
 unfolding pooledHeader
-returns c = simp (← (c .before .before .before .before .before .before .before .before .before .byte-at .ensures), ← (c .before .before .before .before .before .before .before .before .period-of .ensures), ← (c .before .before .before .before .before .before .before .card-count .ensures), ← (c .before .before .before .before .before .before .read-u32 .ensures), ← (c .before .before .before .before .before .read-u322 .ensures), ← (c .before .before .before .before .read-u323 .ensures), ← (c .before .before .before .read-u324 .ensures), ← (c .before .before .read-u325 .ensures), ← (c .before .read-u326 .ensures), ← (c .read-u327 .ensures))
+returns c =
+    simp (
+      ← (c .before .before .before .before .before .before .before .before .before .byte-at .ensures),
+      ← (c .before .before .before .before .before .before .before .before .period-of .ensures),
+      ← (c .before .before .before .before .before .before .before .card-count .ensures),
+      ← (c .before .before .before .before .before .before .read-u32 .ensures),
+      ← (c .before .before .before .before .before .read-u322 .ensures),
+      ← (c .before .before .before .before .read-u323 .ensures),
+      ← (c .before .before .before .read-u324 .ensures),
+      ← (c .before .before .read-u325 .ensures),
+      ← (c .before .read-u326 .ensures),
+      ← (c .read-u327 .ensures),
+    )
 
 pub pooled-header-spec : {M : Type 1} → statement M
 pooled-header-spec =

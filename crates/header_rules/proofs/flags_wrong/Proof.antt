@@ -5,10 +5,6 @@ use Rattle.format.specs.Header.{flagsWrong}
 use Rattle.header_rules.proofs.flags_wrong.Statement.{statement}
 use Rattle.header_rules.proofs.flags_wrong.Tie as tie
 
-returns : tie.Need-returns
-unfolding flagsWrong
-returns c = simp (← (c .before .byte-at .ensures), lt-ltb _ _ (c .if1 .taken))
-
 returns-2 : tie.Need-returns-2
 unfolding flagsWrong
 returns-2 c = simp (← (c .before .before .before .byte-at .ensures), le-ltb _ _ (c .before .before .if1 .left), ← (c .before .byte-at2 .ensures), ne-eqb _ _ (c .if2 .taken))
@@ -19,9 +15,16 @@ returns-3 c = simp (← (c .before .before .before .before .byte-at .ensures), l
 
 returns-4 : tie.Need-returns-4
 unfolding flagsWrong
-returns-4 c = simp (← (c .before .before .before .before .before .byte-at .ensures), le-ltb _ _ (c .before .before .before .before .if1 .left), ← (c .before .before .before .byte-at2 .ensures), eq-eqb _ _ (c .before .before .if2 .left), ne-eqb _ _ (c .before .if3 .left), ← (c .reserved-wrong .ensures))
+returns-4 c =
+    simp (
+      ← (c .before .before .before .before .before .byte-at .ensures),
+      le-ltb _ _ (c .before .before .before .before .if1 .left),
+      ← (c .before .before .before .byte-at2 .ensures),
+      eq-eqb _ _ (c .before .before .if2 .left),
+      ne-eqb _ _ (c .before .if3 .left),
+      ← (c .reserved-wrong .ensures),
+    )
 
 pub flags-wrong-spec : {M : Type 1} → statement M
-flags-wrong-spec =
-    tie.close
-    (tie.spec (search needs) returns (search needs) returns-2 returns-3 (search needs) returns-4)
+unfolding flagsWrong
+flags-wrong-spec = tie.close (tie.spec (search needs) (λ c. simp (← (c .before .byte-at .ensures), lt-ltb _ _ (c .if1 .taken))) (search needs) returns-2 returns-3 (search needs) returns-4)

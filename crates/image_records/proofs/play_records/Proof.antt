@@ -1,10 +1,12 @@
--- `image_records::play_records` meets its contract. Assumes nothing.
+-- `image_records::play_records` meets its contract. The loop's invariant: the image keeps its length, places are small, and playing what is
+-- left in it is playing all in the first one. The measure is the records that are left.
 use borrow.Author.Needs.{needs}
 use native.Mathlib.Omega.{arith}
-use Prim.Native.Nat.{_+_, _-_, _*_, _≤_}
+use Prim.Native.Nat.{_+_, _*_, _≤_}
 use mathlib.Core.Path.{_≡_, refl, sym, _∙_}
 use lib.ListN.{length}
 use Rattle.format.specs.Compare.{played}
+use Rattle.format.specs.Size.{recordSize}
 use Rattle.spans.specs.Segments.{recordWrites}
 use Rattle.image_store.proofs.Image.{records-step, records-end, played-length}
 use Rattle.image_records.proofs.play_records.Statement.{statement}
@@ -13,24 +15,24 @@ use Rattle.image_records.proofs.play_records.Tie as tie
 abbrev Inv-loop : tie.InvT-loop
 Inv-loop file start count image₀ at₀ left₀ image at left =
     (length image ≡ length image₀)
-    × (at + left * 5 ≤ 0x2000000000)
+    × (at + left * recordSize ≤ 0x2000000000)
     × (played image₀ (recordWrites file count start) ≡ played image (recordWrites file left at))
 
 abbrev μ-loop : tie.MeasureT-loop
 μ-loop file start count image₀ at₀ left₀ image at left =
     left
 
-loop-holds : tie.Need-loop-holds Inv-loop μ-loop
-loop-holds c = (refl, omega arith, refl)
-
 loop-again : tie.Need-loop-again Inv-loop μ-loop
 loop-again c =
-    let l = c .before .before .before .before .before .loop in
-    let a = c .before .before .before .before .before .before .before .before .args in
-    (rw (c .before .before .play-record .ensures, played-length) (l .inv .0), omega arith, l .inv .2 ∙ records-step (a .file .now) (l .image) (l .left) (l .at) (c .before .before .before .before .loop-test .taken) ∙ rw (← (c .before .before .play-record .ensures)))
-
-same-length : tie.Need-same-length Inv-loop μ-loop
-same-length c = c .before .loop .inv .0
+    let record-played = c .before .before in
+    let test = record-played .before .before in
+    let l = test .before .loop in
+    let a = test .before .before .before .before .args in
+    let step = records-step (a .file .now) (l .image) (l .left) (l .at) (test .loop-test .taken) in (
+      rw (record-played .play-record .ensures, played-length) (l .inv .0),
+      omega arith,
+      l .inv .2 ∙ step ∙ rw (← (record-played .play-record .ensures)),
+    )
 
 returns : tie.Need-returns Inv-loop μ-loop
 returns c =
@@ -42,4 +44,4 @@ returns c =
 pub play-records-spec : {M : Type 1} → statement M
 play-records-spec =
     tie.close
-    (tie.spec Inv-loop μ-loop loop-holds (search needs) (search needs) (search needs) (search needs) loop-again same-length returns)
+    (tie.spec Inv-loop μ-loop (λ c. (refl, omega arith, refl)) (search needs) (search needs) (search needs) (search needs) loop-again (λ c. c .before .loop .inv .0) returns)

@@ -1,6 +1,5 @@
--- `image_store::begin` meets its contract. Assumes nothing.
+-- `image_store::begin` meets its contract: a memory filled from its start to its end is one value.
 use borrow.Author.Needs.{needs}
-use Prim.Native.Nat.{_-_}
 use mathlib.Core.Path.{_∙_}
 use Rattle.image_store.proofs.Image.{fill-all}
 use Rattle.image_store.proofs.begin.Statement.{statement}
@@ -12,6 +11,4 @@ returns c =
     c .before .before .fill .ensures ∙ fill-all (a .image .now) 0x80
 
 pub begin-spec : {M : Type 1} → statement M
-begin-spec =
-    tie.close
-    (tie.spec (search needs) (search needs) returns)
+begin-spec = tie.close (tie.spec (search needs) (search needs) returns)

@@ -1,7 +1,8 @@
--- `image_store::copy` meets its contract. Assumes nothing.
+-- `image_store::copy` meets its contract. The loop's invariant: the image keeps its length, and playing what is left in it is playing
+-- all in the first one. The measure is the bytes that are left.
 use borrow.Author.Needs.{needs}
 use native.Mathlib.Omega.{arith}
-use Prim.Native.Nat.{_+_, _-_, _≤_}
+use Prim.Native.Nat.{_+_, _≤_}
 use mathlib.Core.Path.{_≡_, refl, sym, _∙_}
 use lib.ListN.{length, length-set}
 use Rattle.format.specs.Compare.{played}
@@ -21,17 +22,12 @@ abbrev μ-loop : tie.MeasureT-loop
 μ-loop image₀ address count file source at₀ left₀ from₀ image at left from =
     left
 
-loop-holds : tie.Need-loop-holds Inv-loop μ-loop
-loop-holds c = (refl, refl, omega arith, refl)
-
 loop-again : tie.Need-loop-again Inv-loop μ-loop
 loop-again c =
     let l = c .before .before .loop in
     let a = c .before .before .before .before .before .args in
-    (length-set (l .image) (l .at) (c .byte-at .result) ∙ l .inv .0, omega arith, omega arith, l .inv .3 ∙ copy-step (a .file .now) (l .image) (l .at) (l .from) 1 (l .left) (c .before .loop-test .taken) ∙ rw (← (c .byte-at .ensures)))
-
-same-length : tie.Need-same-length Inv-loop μ-loop
-same-length c = c .before .loop .inv .0
+    let step = copy-step (a .file .now) (l .image) (l .at) (l .from) 1 (l .left) (c .before .loop-test .taken) in
+    (length-set (l .image) (l .at) (c .byte-at .result) ∙ l .inv .0, omega arith, omega arith, l .inv .3 ∙ step ∙ rw (← (c .byte-at .ensures)))
 
 returns : tie.Need-returns Inv-loop μ-loop
 returns c =
@@ -43,4 +39,5 @@ returns c =
 pub copy-spec : {M : Type 1} → statement M
 copy-spec =
     tie.close
-    (tie.spec Inv-loop μ-loop loop-holds (search needs) (search needs) (search needs) (search needs) (search needs) (search needs) loop-again same-length returns)
+    (tie.spec Inv-loop μ-loop (λ c. (refl, refl, omega arith, refl)) (search needs) (search needs) (search needs) (search needs) (search needs) (search needs) loop-again
+    (λ c. c .before .loop .inv .0) returns)

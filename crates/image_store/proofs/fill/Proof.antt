@@ -1,7 +1,8 @@
--- `image_store::fill` meets its contract. Assumes nothing.
+-- `image_store::fill` meets its contract. The loop's invariant: the image keeps its length, and playing what is left in it is playing
+-- all in the first one. The measure is the bytes that are left.
 use borrow.Author.Needs.{needs}
 use native.Mathlib.Omega.{arith}
-use Prim.Native.Nat.{_+_, _-_}
+use Prim.Native.Nat.{_+_}
 use mathlib.Core.Path.{_≡_, refl, sym, _∙_}
 use lib.ListN.{length, replicate, length-set}
 use Rattle.format.specs.Compare.{played}
@@ -20,17 +21,11 @@ abbrev μ-loop : tie.MeasureT-loop
 μ-loop image₀ address count value at₀ left₀ image at left =
     left
 
-loop-holds : tie.Need-loop-holds Inv-loop μ-loop
-loop-holds c = (refl, refl, refl)
-
 loop-again : tie.Need-loop-again Inv-loop μ-loop
 loop-again c =
     let l = c .before .loop in
     let a = c .before .before .args in
     (length-set (l .image) (l .at) (a .value) ∙ l .inv .0, omega arith, l .inv .2 ∙ fill-step (l .image) (l .at) (l .left) (a .value) (c .loop-test .taken))
-
-same-length : tie.Need-same-length Inv-loop μ-loop
-same-length c = c .before .loop .inv .0
 
 returns : tie.Need-returns Inv-loop μ-loop
 returns c =
@@ -40,6 +35,4 @@ returns c =
     rw (l .inv .2, none) (sym (fill-end (l .image) (l .at) (a .value)))
 
 pub fill-spec : {M : Type 1} → statement M
-fill-spec =
-    tie.close
-    (tie.spec Inv-loop μ-loop loop-holds (search needs) (search needs) (search needs) (search needs) loop-again same-length returns)
+fill-spec = tie.close (tie.spec Inv-loop μ-loop (λ c. (refl, refl, refl)) (search needs) (search needs) (search needs) (search needs) loop-again (λ c. c .before .loop .inv .0) returns)

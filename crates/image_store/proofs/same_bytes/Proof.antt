@@ -1,4 +1,5 @@
--- `image_store::same_bytes` meets its contract. Assumes nothing.
+-- `image_store::same_bytes` meets its contract. The loop's invariant: the images are equally long, and agree exactly where they do from the
+-- index on. The measure is the bytes behind the index.
 use borrow.Author.Needs.{needs}
 use native.Mathlib.Omega.{arith}
 use Prim.Native.Nat.{_-_, _≤_}
@@ -22,9 +23,6 @@ returns : tie.Need-returns Inv-loop μ-loop
 returns c =
     let a = c .before .args in
     sym (bytes-differ (a .a .now) (a .b .now) (c .if1 .taken))
-
-loop-holds : tie.Need-loop-holds Inv-loop μ-loop
-loop-holds c = (c .if1 .left, omega arith, refl)
 
 shared-slice-read-if2-2 : tie.Need-shared-slice-read-if2-2 Inv-loop μ-loop
 shared-slice-read-if2-2 c =
@@ -52,4 +50,4 @@ returns-3 c =
 pub same-bytes-spec : {M : Type 1} → statement M
 same-bytes-spec =
     tie.close
-    (tie.spec Inv-loop μ-loop returns loop-holds (search needs) shared-slice-read-if2-2 returns-2 (search needs) (search needs) loop-again returns-3)
+    (tie.spec Inv-loop μ-loop returns (λ c. (c .if1 .left, omega arith, refl)) (search needs) shared-slice-read-if2-2 returns-2 (search needs) (search needs) loop-again returns-3)

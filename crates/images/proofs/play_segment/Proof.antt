@@ -1,13 +1,12 @@
--- `images::play_segment` meets its contract. Assumes nothing.
+-- `images::play_segment` meets its contract: a segment of another target or past the image's end leaves it as it is, and of any other as
+-- much is stored as there is room for.
 use borrow.Author.Needs.{needs}
 use native.Mathlib.Omega.{arith}
-use Prim.Native.Nat.{_-_}
 use mathlib.Core.Path.{sym, _∙_}
 use borrow.Author.Tests.{ne-eqb}
 use Rattle.spans.specs.Segments.{stepOf}
-use Rattle.image_store.specs.Image.{least}
 use Rattle.spans.proofs.Streams.{spread-fill}
-use Rattle.image_store.proofs.Image.{copy-other, copy-past, copy-least}
+use Rattle.image_store.proofs.Image.{copy-other, copy-past, copy-min}
 use Rattle.images.proofs.play_segment.Statement.{statement}
 use Rattle.images.proofs.play_segment.Tie as tie
 
@@ -27,7 +26,8 @@ returns-3 c =
     let n = t .before in
     let o = n .before .before in
     let a = o .before .before .before .before .before .before .args in
-    c .before .before .copy .ensures ∙ rw (n .least .ensures .0, o .before .before .if1 .left, t .if3 .taken) (copy-least (a .file .now) (a .image .now) (a .segment .address) (a .segment .source) 1 (a .segment .count) (omega arith))
+    c .before .before .copy .ensures
+    ∙ rw (n .smaller .ensures .0, o .before .before .if1 .left, t .if3 .taken) (copy-min (a .file .now) (a .image .now) (a .segment .address) (a .segment .source) 1 (a .segment .count) (omega arith))
 
 returns-4 : tie.Need-returns-4
 returns-4 c =
@@ -35,7 +35,14 @@ returns-4 c =
     let n = t .before in
     let o = n .before .before in
     let a = o .before .before .before .before .before .before .args in
-    c .before .before .fill .ensures ∙ rw (c .before .before .before .byte-at .ensures, ← (spread-fill (a .file .now) 2 (a .segment .address) (a .segment .source) (n .least .result)), n .least .ensures .0, o .before .before .if1 .left, t .if3 .left) (copy-least (a .file .now) (a .image .now) (a .segment .address) (a .segment .source) 0 (a .segment .count) (omega arith))
+    c .before .before .fill .ensures
+    ∙ rw (
+      c .before .before .before .byte-at .ensures,
+      ← (spread-fill (a .file .now) 2 (a .segment .address) (a .segment .source) (n .smaller .result)),
+      n .smaller .ensures .0,
+      o .before .before .if1 .left,
+      t .if3 .left,
+    ) (copy-min (a .file .now) (a .image .now) (a .segment .address) (a .segment .source) 0 (a .segment .count) (omega arith))
 
 pub play-segment-spec : {M : Type 1} → statement M
 play-segment-spec =

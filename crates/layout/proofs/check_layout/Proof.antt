@@ -7,9 +7,19 @@ use Rattle.layout.proofs.check_layout.Statement.{statement}
 use Rattle.layout.proofs.check_layout.Tie as tie
 
 -- the rules 7 to 9 are one row
-row : (c : tie.After-then2) → verdictOf (c .then2 .result) ≡ tablesRow (c .before .before .before .before .before .before .before .args .cards) (c .before .before .before .before .before .before .before .args .header) (c .before .before .before .before .before .before .before .args .file .now)
+row : (c : tie.After-then2)
+    → verdictOf (c .then2 .result)
+    ≡ tablesRow (c .before .before .before .before .before .before .before .args .cards) (c .before .before .before .before .before .before .before .args .header)
+    (c .before .before .before .before .before .before .before .args .file .now)
 row c =
-    rw (c .then2 .ensures, c .before .then .ensures, c .before .before .refuse2 .ensures, c .before .before .before .directory-wrong .ensures, c .before .before .before .before .refuse .ensures, c .before .before .before .before .before .counts-wrong .ensures)
+    rw (
+      c .then2 .ensures,
+      c .before .then .ensures,
+      c .before .before .refuse2 .ensures,
+      c .before .before .before .directory-wrong .ensures,
+      c .before .before .before .before .refuse .ensures,
+      c .before .before .before .before .before .counts-wrong .ensures,
+    )
 
 returns : tie.Need-returns
 returns c = rw (layout-row, ← (row (c .before .before .before)), c .before .enum-told .given .1) (c .check-sections .ensures)

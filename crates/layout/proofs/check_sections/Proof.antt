@@ -11,6 +11,4 @@ returns-2 : tie.Need-returns-2
 returns-2 c = rw (← (c .before .before .before .check-pools .ensures), c .before .refusal .given .1)
 
 pub check-sections-spec : {M : Type 1} → statement M
-check-sections-spec =
-    tie.close
-    (tie.spec (search needs) (search needs) (search needs) (search needs) (search needs) returns returns-2)
+check-sections-spec = tie.close (tie.spec (search needs) (search needs) (search needs) (search needs) (search needs) returns returns-2)

@@ -13,6 +13,4 @@ unfolding bulkEnd
 returns-2 c = simp (← (c .before .before .before .missing .ensures), c .before .before .if1 .left, ← (c .before .bulk-start .ensures), ← (c .bulk-length .ensures))
 
 pub bulk-end-spec : {M : Type 1} → statement M
-bulk-end-spec =
-    tie.close
-    (tie.spec (search needs) returns (search needs) (search needs) (search needs) (search needs) (search needs) (search needs) returns-2)
+bulk-end-spec = tie.close (tie.spec (search needs) returns (search needs) (search needs) (search needs) (search needs) (search needs) (search needs) returns-2)

@@ -18,5 +18,4 @@ unfolding writeEnd
 returns-2 c = simp (← (c .before .before .missing .ensures), c .before .if1 .left, ← (c .write-limit .ensures), and-false, or-false)
 
 pub write-end-spec : {M : Type 1} → statement M
-write-end-spec =
-    tie.close (tie.spec (search needs) returns (search needs) add-result returns-2)
+write-end-spec = tie.close (tie.spec (search needs) returns (search needs) add-result returns-2)

@@ -1,4 +1,4 @@
--- `loads::load_2` meets its contract. Assumes nothing.
+-- `loads::load_2` meets its contract: a number of 2 bytes is the first and one byte more (`be-first`, `be-next`).
 use borrow.Author.Needs.{needs}
 use native.Mathlib.Omega.{arith}
 use Rattle.format.proofs.Bytes.{be-first, be-next}
@@ -9,6 +9,4 @@ returns : tie.Need-returns
 returns c = let a = c .before .before .before .before .before .args in omega (arith, be-first (a .file .now) (a .at), be-next 1 (a .file .now) (a .at))
 
 pub load-2-spec : {M : Type 1} → statement M
-load-2-spec =
-    tie.close
-    (tie.spec (search needs) (search needs) (search needs) (search needs) (search needs) (search needs) (search needs) returns)
+load-2-spec = tie.close (tie.spec (search needs) (search needs) (search needs) (search needs) (search needs) (search needs) (search needs) returns)

@@ -1,4 +1,4 @@
--- `loads::load_3` meets its contract. Assumes nothing.
+-- `loads::load_3` meets its contract: a number of 3 bytes is that of 2 and one byte more (`be-next`).
 use borrow.Author.Needs.{needs}
 use native.Mathlib.Omega.{arith}
 use Rattle.format.proofs.Bytes.{be-next}
@@ -9,6 +9,4 @@ returns : tie.Need-returns
 returns c = let a = c .before .before .before .before .args in omega (arith, be-next 2 (a .file .now) (a .at))
 
 pub load-3-spec : {M : Type 1} → statement M
-load-3-spec =
-    tie.close
-    (tie.spec (search needs) (search needs) (search needs) (search needs) (search needs) (search needs) returns)
+load-3-spec = tie.close (tie.spec (search needs) (search needs) (search needs) (search needs) (search needs) (search needs) returns)

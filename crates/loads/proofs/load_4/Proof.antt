@@ -1,4 +1,4 @@
--- `loads::load_4` meets its contract. Assumes nothing.
+-- `loads::load_4` meets its contract: a number of 4 bytes is that of 3 and one byte more (`be-next`).
 use borrow.Author.Needs.{needs}
 use native.Mathlib.Omega.{arith}
 use Rattle.format.proofs.Bytes.{be-next}
@@ -9,6 +9,4 @@ returns : tie.Need-returns
 returns c = let a = c .before .before .before .before .args in omega (arith, be-next 3 (a .file .now) (a .at))
 
 pub load-4-spec : {M : Type 1} → statement M
-load-4-spec =
-    tie.close
-    (tie.spec (search needs) (search needs) (search needs) (search needs) (search needs) (search needs) returns)
+load-4-spec = tie.close (tie.spec (search needs) (search needs) (search needs) (search needs) (search needs) (search needs) returns)

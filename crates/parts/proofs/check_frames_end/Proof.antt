@@ -13,6 +13,4 @@ returns-3 : tie.Need-returns-3
 returns-3 c = rw (← (c .before .before .before .check-frames .ensures), c .before .refusal .given .1)
 
 pub check-frames-end-spec : {M : Type 1} → statement M
-check-frames-end-spec =
-    tie.close
-    (tie.spec (λ c κs. search needs) (λ c. search needs) returns (λ c. search needs) returns-2 returns-3)
+check-frames-end-spec = tie.close (tie.spec (λ c κs. search needs) (λ c. search needs) returns (λ c. search needs) returns-2 returns-3)

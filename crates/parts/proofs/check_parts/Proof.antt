@@ -8,7 +8,7 @@ returns c = rw (← (c .before .before .before .before .before .check-opening .e
 
 returns-2 : tie.Need-returns-2
 returns-2 c =
-    let passed = c .before .before .before .before .before in
+    let passed = c .before .before in
     let place = passed .before .before .before in
     rw (← (place .before .before .check-opening .ensures), place .place .given .1, eq-eqb _ _ (passed .if1 .left)) (c .check-frames-end .ensures)
 
@@ -16,6 +16,4 @@ returns-3 : tie.Need-returns-3
 returns-3 c = rw (← (c .before .before .before .check-opening .ensures), c .before .refusal .given .1)
 
 pub check-parts-spec : {M : Type 1} → statement M
-check-parts-spec =
-    tie.close
-    (tie.spec (λ c κs. search needs) (λ c κs. search needs) (λ c. search needs) returns (λ c κs. search needs) (λ c. search needs) returns-2 returns-3)
+check-parts-spec = tie.close (tie.spec (λ c κs. search needs) (λ c κs. search needs) (λ c. search needs) returns (λ c κs. search needs) (λ c. search needs) returns-2 returns-3)

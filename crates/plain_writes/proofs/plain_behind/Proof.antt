@@ -30,15 +30,19 @@ returns-2 c =
 
 returns-3 : tie.Need-returns-3 Inv-loop μ-loop
 returns-3 c =
-    let l = c .before .before .before .before .before .before in
+    let t = c .before .before .before in
+    let l = t .before .before .before in
     let a = l .before .before .before .args in
-    rw (l .loop .inv, behind-other (a .version) (a .file .now) (a .end) (l .loop .left) (l .loop .at) (c .before .before .before .before .before .loop-test .taken) (omega (arith, c .before .before .before .if2 .left, c .before .before .before .before .if1 .left)) (rw (← (c .before .before .window .ensures)) (sym (c .before .plain-in .ensures) ∙ not-true _ (c .if3 .taken))))
+    let other = behind-other (a .version) (a .file .now) (a .end) (l .loop .left) (l .loop .at) (t .before .before .loop-test .taken) in
+    rw (l .loop .inv, other (omega (arith, t .if2 .left, t .before .if1 .left)) (rw (← (c .before .before .window .ensures)) (sym (c .before .plain-in .ensures) ∙ not-true _ (c .if3 .taken))))
 
 loop-again : tie.Need-loop-again Inv-loop μ-loop
 loop-again c =
-    let l = c .before .before .before .before .before .before in
+    let t = c .before .before .before in
+    let l = t .before .before .before in
     let a = l .before .before .before .args in
-    rw (l .loop .inv, behind-step (a .version) (a .file .now) (a .end) (l .loop .left) (l .loop .at) (c .before .before .before .before .before .loop-test .taken) (omega (arith, c .before .before .before .if2 .left, c .before .before .before .before .if1 .left)) (rw (← (c .before .before .window .ensures)) (sym (c .before .plain-in .ensures) ∙ not-false _ (c .if3 .left))), l .before .plain-size .ensures .0)
+    let step = behind-step (a .version) (a .file .now) (a .end) (l .loop .left) (l .loop .at) (t .before .before .loop-test .taken) in
+    rw (l .loop .inv, step (omega (arith, t .if2 .left, t .before .if1 .left)) (rw (← (c .before .before .window .ensures)) (sym (c .before .plain-in .ensures) ∙ not-false _ (c .if3 .left))), l .before .plain-size .ensures .0)
 
 returns-4 : tie.Need-returns-4 Inv-loop μ-loop
 unfolding plainBehind

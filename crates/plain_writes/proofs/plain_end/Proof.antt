@@ -15,25 +15,32 @@ returns-2 c = simp (le-ltb _ _ (c .before .if1 .left), le-leb _ _ (c .before .if
 
 returns-3 : tie.Need-returns-3
 unfolding plainEnd
-returns-3 c = simp (le-ltb _ _ (c .before .before .before .if1 .left), le-leb _ _ (c .before .before .before .if1 .left), ne-eqb _ _ (c .before .before .if2 .left), eq-eqb _ _ (c .before .if3 .taken), eq-eqb _ _ (c .if4 .taken), and-false, or-false)
+returns-3 c =
+    let t = c .before .before in
+    simp (le-ltb _ _ (t .before .if1 .left), le-leb _ _ (t .before .if1 .left), ne-eqb _ _ (t .if2 .left), eq-eqb _ _ (c .before .if3 .taken), eq-eqb _ _ (c .if4 .taken), and-false, or-false)
 
 returns-4 : tie.Need-returns-4
 unfolding plainEnd
-returns-4 c = simp (le-ltb _ _ (c .before .before .before .if1 .left), le-leb _ _ (c .before .before .before .if1 .left), ne-eqb _ _ (c .before .before .if2 .left), eq-eqb _ _ (c .before .if3 .taken), ne-eqb _ _ (c .if4 .left), and-false, or-false)
+returns-4 c =
+    let t = c .before .before in
+    simp (le-ltb _ _ (t .before .if1 .left), le-leb _ _ (t .before .if1 .left), ne-eqb _ _ (t .if2 .left), eq-eqb _ _ (c .before .if3 .taken), ne-eqb _ _ (c .if4 .left), and-false, or-false)
 
 returns-5 : tie.Need-returns-5
 unfolding plainEnd
-returns-5 c = simp (le-ltb _ _ (c .before .before .before .before .if1 .left), le-leb _ _ (c .before .before .before .before .if1 .left), ne-eqb _ _ (c .before .before .before .if2 .left), ne-eqb _ _ (c .before .before .if3 .left), eq-eqb _ _ (c .before .if5 .taken), eq-eqb _ _ (c .if6 .taken), and-false, or-false)
+returns-5 c =
+    let t = c .before .before .before in
+    simp (le-ltb _ _ (t .before .if1 .left), le-leb _ _ (t .before .if1 .left), ne-eqb _ _ (t .if2 .left), ne-eqb _ _ (c .before .before .if3 .left), eq-eqb _ _ (c .before .if5 .taken), eq-eqb _ _ (c .if6 .taken), and-false, or-false)
 
 returns-6 : tie.Need-returns-6
 unfolding plainEnd
-returns-6 c = simp (le-ltb _ _ (c .before .before .before .before .if1 .left), le-leb _ _ (c .before .before .before .before .if1 .left), ne-eqb _ _ (c .before .before .before .if2 .left), ne-eqb _ _ (c .before .before .if3 .left), eq-eqb _ _ (c .before .if5 .taken), ne-eqb _ _ (c .if6 .left), and-false, or-false)
+returns-6 c =
+    let t = c .before .before .before in
+    simp (le-ltb _ _ (t .before .if1 .left), le-leb _ _ (t .before .if1 .left), ne-eqb _ _ (t .if2 .left), ne-eqb _ _ (c .before .before .if3 .left), eq-eqb _ _ (c .before .if5 .taken), ne-eqb _ _ (c .if6 .left), and-false, or-false)
 
 returns-7 : tie.Need-returns-7
 unfolding plainEnd
-returns-7 c = simp (le-ltb _ _ (c .before .before .before .if1 .left), le-leb _ _ (c .before .before .before .if1 .left), ne-eqb _ _ (c .before .before .if2 .left), ne-eqb _ _ (c .before .if3 .left), ne-eqb _ _ (c .if5 .left), and-false, or-false)
+returns-7 c =
+    simp (le-ltb _ _ (c .before .before .before .if1 .left), le-leb _ _ (c .before .before .before .if1 .left), ne-eqb _ _ (c .before .before .if2 .left), ne-eqb _ _ (c .before .if3 .left), ne-eqb _ _ (c .if5 .left), and-false, or-false)
 
 pub plain-end-spec : {M : Type 1} → statement M
-plain-end-spec =
-    tie.close
-    (tie.spec (search needs) returns (search needs) returns-2 (search needs) returns-3 returns-4 (search needs) returns-5 returns-6 returns-7)
+plain-end-spec = tie.close (tie.spec (search needs) returns (search needs) returns-2 (search needs) returns-3 returns-4 (search needs) returns-5 returns-6 returns-7)

@@ -7,6 +7,4 @@ returns : tie.Need-returns
 returns c = simp (← (c .before .before .byte-at .ensures), ← (c .before .read-u32 .ensures), ← (c .read-u322 .ensures))
 
 pub read-pool-spec : {M : Type 1} → statement M
-read-pool-spec =
-    tie.close
-    (tie.spec (search needs) (search needs) (search needs) (search needs) (search needs) (search needs) (search needs) (search needs) returns)
+read-pool-spec = tie.close (tie.spec (search needs) (search needs) (search needs) (search needs) (search needs) (search needs) (search needs) (search needs) returns)

@@ -18,6 +18,4 @@ returns-2 : tie.Need-returns-2
 returns-2 c = rw (refused-as (c .before .before .before .before .before .args .file .now) _ _ (c .before .before .before .check-file .ensures) (c .before .answer2 .given .1) .0)
 
 pub find-pool-spec : {M : Type 1} → statement M
-find-pool-spec =
-    tie.close
-    (tie.spec (search needs) (search needs) (search needs) (search needs) returns returns-2)
+find-pool-spec = tie.close (tie.spec (search needs) (search needs) (search needs) (search needs) returns returns-2)

@@ -11,5 +11,4 @@ returns-2 : tie.Need-returns-2
 returns-2 c = rw (kind-found, ← (c .before .before .before .find-pool .ensures), c .before .refusal .given .1)
 
 pub pool-kind-spec : {M : Type 1} → statement M
-pool-kind-spec =
-    tie.close (tie.spec (search needs) (search needs) (search needs) returns returns-2)
+pool-kind-spec = tie.close (tie.spec (search needs) (search needs) (search needs) returns returns-2)

@@ -8,6 +8,4 @@ returns c =
     rw (c .then .ensures, c .before .refuse2 .ensures, c .before .before .refuse .ensures, c .before .before .before .before .pool-wrong .ensures)
 
 pub check-pool-spec : {M : Type 1} → statement M
-check-pool-spec =
-    tie.close
-    (tie.spec (search needs) (search needs) (search needs) (search needs) (search needs) (search needs) returns)
+check-pool-spec = tie.close (tie.spec (search needs) (search needs) (search needs) (search needs) (search needs) (search needs) returns)

@@ -6,27 +6,24 @@ use Rattle.format.specs.Pool.{poolWrong}
 use Rattle.pool_rules.proofs.pool_wrong.Statement.{statement}
 use Rattle.pool_rules.proofs.pool_wrong.Tie as tie
 
-returns : tie.Need-returns
-unfolding poolWrong
-returns c = simp (← (c .before .read-u16 .ensures), ne-eqb _ _ (c .if1 .taken))
-
-returns-2 : tie.Need-returns-2
-unfolding poolWrong
-returns-2 c = simp (← (c .before .kind-wrong .ensures), c .if2 .taken, or-true)
-
-returns-3 : tie.Need-returns-3
-unfolding poolWrong
-returns-3 c = simp (← (c .before .byte-at .ensures), ne-eqb _ _ (c .if3 .taken), or-true)
-
-returns-4 : tie.Need-returns-4
-unfolding poolWrong
-returns-4 c = simp (← (c .before .before .read-u32 .ensures), ne-eqb _ _ (c .if4 .taken), or-true)
-
 returns-5 : tie.Need-returns-5
 unfolding poolWrong
-returns-5 c = rw (← (c .before .before .before .before .before .before .before .before .before .read-u16 .ensures), eq-eqb _ _ (c .before .before .before .before .before .before .before .before .if1 .left), ← (c .before .before .before .before .before .before .before .kind-wrong .ensures), c .before .before .before .before .before .before .if2 .left, ← (c .before .before .before .before .before .byte-at .ensures), eq-eqb _ _ (c .before .before .before .before .if3 .left), ← (c .before .before .before .read-u32 .ensures), eq-eqb _ _ (c .before .if4 .left))
+returns-5 c =
+    rw (
+      ← (c .before .before .before .before .before .before .before .before .before .read-u16 .ensures),
+      eq-eqb _ _ (c .before .before .before .before .before .before .before .before .if1 .left),
+      ← (c .before .before .before .before .before .before .before .kind-wrong .ensures),
+      c .before .before .before .before .before .before .if2 .left,
+      ← (c .before .before .before .before .before .byte-at .ensures),
+      eq-eqb _ _ (c .before .before .before .before .if3 .left),
+      ← (c .before .before .before .read-u32 .ensures),
+      eq-eqb _ _ (c .before .if4 .left),
+    )
 
 pub pool-wrong-spec : {M : Type 1} → statement M
+unfolding poolWrong
 pool-wrong-spec =
     tie.close
-    (tie.spec (search needs) (search needs) returns (search needs) returns-2 (search needs) (search needs) returns-3 (search needs) (search needs) returns-4 (search needs) returns-5)
+    (tie.spec (search needs) (search needs) (λ c. simp (← (c .before .read-u16 .ensures), ne-eqb _ _ (c .if1 .taken))) (search needs)
+    (λ c. simp (← (c .before .kind-wrong .ensures), c .if2 .taken, or-true)) (search needs) (search needs) (λ c. simp (← (c .before .byte-at .ensures), ne-eqb _ _ (c .if3 .taken), or-true))
+    (search needs) (search needs) (λ c. simp (← (c .before .before .read-u32 .ensures), ne-eqb _ _ (c .if4 .taken), or-true)) (search needs) returns-5)

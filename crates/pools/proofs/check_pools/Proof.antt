@@ -27,15 +27,29 @@ returns c =
     let read = c .before .before .before .before in
     let l = read .before .before in
     let s = l .before .before .args in
-    rw (l .loop .inv .2, pools-step (s .header .version) (s .file .now) (s .header .«directory_offset») (s .header .«pool_count») (l .loop .id) (l .loop .start) _ (read .read-pool .ensures) (omega arith), ← (c .before .before .before .check-pool .ensures), c .before .refusal .given .1)
+    rw (
+      l .loop .inv .2,
+      pools-step (s .header .version) (s .file .now) (s .header .«directory_offset») (s .header .«pool_count») (l .loop .id) (l .loop .start) _ (read .read-pool .ensures) (omega arith),
+      ← (c .before .before .before .check-pool .ensures),
+      c .before .refusal .given .1,
+    )
 
 loop-again : tie.Need-loop-again Inv-loop μ-loop
 loop-again c =
     let read = c .before .before .before .before in
     let l = read .before .before in
     let s = l .before .before .args in
-    let within = pool-within (s .header .version) (s .file .now) _ (l .loop .id) (l .loop .start) _ (sym (c .before .before .before .check-pool .ensures) ∙ ap verdictOf (c .before .enum-told .given .1)) in
-    (omega arith, omega arith, rw (l .loop .inv .2, pools-step (s .header .version) (s .file .now) (s .header .«directory_offset») (s .header .«pool_count») (l .loop .id) (l .loop .start) _ (read .read-pool .ensures) (omega arith), ← (c .before .before .before .check-pool .ensures), c .before .enum-told .given .1))
+    let within = pool-within (s .header .version) (s .file .now) _ (l .loop .id) (l .loop .start) _ (sym (c .before .before .before .check-pool .ensures) ∙ ap verdictOf (c .before .enum-told .given .1)) in (
+      omega arith,
+      omega arith,
+      rw (
+        l .loop .inv .2,
+        pools-step (s .header .version) (s .file .now) (s .header .«directory_offset») (s .header .«pool_count») (l .loop .id) (l .loop .start) _
+            (read .read-pool .ensures) (omega arith),
+        ← (c .before .before .before .check-pool .ensures),
+        c .before .enum-told .given .1,
+      ),
+    )
 
 returns-2 : tie.Need-returns-2 Inv-loop μ-loop
 returns-2 c =
@@ -47,4 +61,5 @@ returns-2 c =
 pub check-pools-spec : {M : Type 1} → statement M
 check-pools-spec =
     tie.close
-    (tie.spec Inv-loop μ-loop (search needs) (search needs) (search needs) (search needs) loop-holds (search needs) (search needs) (search needs) (search needs) (search needs) (search needs) (search needs) (search needs) (search needs) (search needs) returns (search needs) (search needs) loop-again returns-2)
+    (tie.spec Inv-loop μ-loop (search needs) (search needs) (search needs) (search needs) loop-holds (search needs) (search needs) (search needs) (search needs) (search needs) (search needs)
+    (search needs) (search needs) (search needs) (search needs) returns (search needs) (search needs) loop-again returns-2)

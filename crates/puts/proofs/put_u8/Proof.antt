@@ -1,12 +1,11 @@
--- `puts::put_u8` meets its contract. Assumes nothing.
+-- `puts::put_u8` meets its contract: where the bytes pass the end nothing is put (`number-passes`), else `store_1` puts them.
 use borrow.Author.Needs.{needs}
 use native.Mathlib.Omega.{arith}
 use Rattle.stores.proofs.Laws.{number-passes}
 use Rattle.puts.proofs.put_u8.Statement.{statement}
 use Rattle.puts.proofs.put_u8.Tie as tie
 
-returns : tie.Need-returns
-returns c = let a = c .before .before .args in number-passes 1 (a .value) (a .at) (a .buffer .now) (omega arith)
-
 pub put-u8-spec : {M : Type 1} → statement M
-put-u8-spec = tie.close (tie.spec returns (search needs) (λ c. search needs) (λ c. search needs))
+put-u8-spec =
+    tie.close
+    (tie.spec (λ c. let a = c .before .before .args in number-passes 1 (a .value) (a .at) (a .buffer .now) (omega arith)) (search needs) (λ c. search needs) (λ c. search needs))

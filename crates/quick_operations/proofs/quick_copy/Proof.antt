@@ -1,31 +1,60 @@
+-- `quick_operations::quick_copy` meets its contract: the fields of a COPY are the reader's, and the tests come in the
+-- definition's order.
 use borrow.Author.Needs.{needs}
 use borrow.Author.Tests.{le-leb, le-ltb, lt-leb, lt-ltb}
-use mathlib.Core.Bool.{and-false, or-false}
-use Rattle.quick_rules.specs.Quick.{quickCopy}
+use Prim.Native.Nat.{ℕ, _+_, _*_}
+use mathlib.Core.Path.{_≡_}
+use mathlib.Core.Bool.{Bool, false, cond}
+use mathlib.Core.List.{List}
+use lib.Dec.{leb, ltb}
+use lib.ListN.{length}
+use Rattle.format.specs.Bytes.{part}
+use Rattle.format.specs.Size.{entrySize}
+use Rattle.fields.specs.Decoded.{decodedOperation}
+use Rattle.limit_tables.specs.declared.TargetLimits.{TargetLimits}
+use Rattle.quick_rules.specs.Quick.{poolFits}
+use Rattle.quick_operations.specs.Passes.{copyPasses}
 use Rattle.quick_operations.proofs.quick_copy.Statement.{statement}
 use Rattle.quick_operations.proofs.quick_copy.Tie as tie
 
-returns : tie.Need-returns
-unfolding quickCopy
-returns c = simp (← (c .before .before .before .before .before .read-address .ensures), ← (c .before .before .before .before .read-u16 .ensures), ← (c .before .before .before .read-u32 .ensures), ← (c .before .before .read-u322 .ensures), ← (c .before .out-of-bulk .ensures), c .if1 .taken, and-false, or-false)
+-- the tests behind that of the range, over the numbers of a COPY
+abbrev pooled : List ℕ → (pools directory : ℕ) → TargetLimits → (address pool source size : ℕ) → Bool
+pooled file pools directory limits address pool source size =
+    let entry = directory + pool * entrySize in
+    cond (leb pools pool) false
+    (cond (ltb (length file) (entry + entrySize)) false (poolFits (part file entry 16) (limits .kind) address source size))
 
-returns-2 : tie.Need-returns-2
-unfolding quickCopy
-returns-2 c = simp (← (c .before .before .before .before .before .before .read-address .ensures), ← (c .before .before .before .before .before .read-u16 .ensures), ← (c .before .before .before .before .read-u32 .ensures), ← (c .before .before .before .read-u322 .ensures), ← (c .before .before .out-of-bulk .ensures), c .before .if1 .left, le-ltb _ _ (c .if2 .taken), le-leb _ _ (c .if2 .taken), and-false, or-false)
+-- the definition, over the numbers that were read
+read : (c : tie.After-out-of-range) → (
+    let length = c .before in
+    let pool = length .before .before in
+    let a = pool .before .before .before .before .args in
+    copyPasses (a .file .now) (a .pools) (a .directory) (a .limits) (decodedOperation (a .width) (a .bytes .now))
+    ≡ cond (c .out-of-range .result) false
+    (pooled (a .file .now) (a .pools) (a .directory) (a .limits) (pool .before .address-in .result) (pool .pool-in .result) (length .before .source-in .result) (length .length-in .result)))
+unfolding copyPasses
+read c =
+    let length = c .before in
+    let source = length .before in
+    let pool = source .before in
+    rw (← (pool .before .address-in .ensures), ← (pool .pool-in .ensures), ← (source .source-in .ensures), ← (length .length-in .ensures), ← (c .out-of-range .ensures))
 
 returns-3 : tie.Need-returns-3
-unfolding quickCopy
-returns-3 c = simp (← (c .before .before .before .before .before .before .before .read-address .ensures), ← (c .before .before .before .before .before .before .read-u16 .ensures), ← (c .before .before .before .before .before .read-u32 .ensures), ← (c .before .before .before .before .read-u322 .ensures), ← (c .before .before .before .out-of-bulk .ensures), c .before .before .if1 .left, lt-leb _ _ (c .before .if2 .left), lt-ltb _ _ (c .before .if2 .left), lt-leb _ _ (c .if3 .taken), lt-ltb _ _ (c .if3 .taken), and-false, or-false)
+returns-3 c =
+    let some = c .before in
+    let range = some .before .before in
+    rw (read range, some .before .if1 .left, lt-leb _ _ (some .if2 .left), lt-ltb _ _ (c .if3 .taken))
 
 returns-4 : tie.Need-returns-4
-unfolding quickCopy
-returns-4 c = simp (← (c .before .before .before .before .before .before .before .before .before .before .read-address .ensures), ← (c .before .before .before .before .before .before .before .before .before .read-u16 .ensures), ← (c .before .before .before .before .before .before .before .before .read-u32 .ensures), ← (c .before .before .before .before .before .before .before .read-u322 .ensures), ← (c .before .before .before .before .before .before .out-of-bulk .ensures), c .before .before .before .before .before .if1 .left, lt-leb _ _ (c .before .before .before .before .if2 .left), lt-ltb _ _ (c .before .before .before .before .if2 .left), le-ltb _ _ (c .before .before .before .if3 .left), le-leb _ _ (c .before .before .before .if3 .left), ← (c .before .before .window .ensures), ← (c .before .pool-fits .ensures), c .if4 .taken, and-false, or-false)
-
-returns-5 : tie.Need-returns-5
-unfolding quickCopy
-returns-5 c = simp (← (c .before .before .before .before .before .before .before .before .before .before .read-address .ensures), ← (c .before .before .before .before .before .before .before .before .before .read-u16 .ensures), ← (c .before .before .before .before .before .before .before .before .read-u32 .ensures), ← (c .before .before .before .before .before .before .before .read-u322 .ensures), ← (c .before .before .before .before .before .before .out-of-bulk .ensures), c .before .before .before .before .before .if1 .left, lt-leb _ _ (c .before .before .before .before .if2 .left), lt-ltb _ _ (c .before .before .before .before .if2 .left), le-ltb _ _ (c .before .before .before .if3 .left), le-leb _ _ (c .before .before .before .if3 .left), ← (c .before .before .window .ensures), ← (c .before .pool-fits .ensures), c .if4 .left, and-false, or-false)
+returns-4 c =
+    let whole = c .before .before in
+    let some = whole .before in
+    let range = some .before .before in
+    rw (read range, some .before .if1 .left, lt-leb _ _ (some .if2 .left), le-ltb _ _ (whole .if3 .left), ← (c .before .window .ensures), c .pool-fits .ensures)
 
 pub quick-copy-spec : {M : Type 1} → statement M
 quick-copy-spec =
     tie.close
-    (tie.spec (search needs) (search needs) (search needs) (search needs) (search needs) (search needs) (search needs) (search needs) (search needs) returns returns-2 (search needs) (search needs) (search needs) (search needs) returns-3 (search needs) (search needs) (search needs) returns-4 returns-5)
+    (tie.spec (search needs) (search needs) (search needs) (search needs) (search needs) (search needs) (λ c. rw (read (c .before), c .if1 .taken))
+    (λ c. rw (read (c .before .before), c .before .if1 .left, le-leb _ _ (c .if2 .taken))) (search needs) (search needs) (search needs) (search needs) returns-3 (search needs) (search needs)
+    returns-4)

@@ -1,18 +1,22 @@
+-- `quick_operations::quick_fill` meets its contract: the fields of a FILL are the reader's.
 use borrow.Author.Needs.{needs}
-use mathlib.Core.Bool.{and-false, or-false}
-use Rattle.quick_rules.specs.Quick.{quickFill}
+use Rattle.quick_operations.specs.Passes.{fillPasses}
 use Rattle.quick_operations.proofs.quick_fill.Statement.{statement}
 use Rattle.quick_operations.proofs.quick_fill.Tie as tie
 
 returns : tie.Need-returns
-unfolding quickFill
-returns c = simp (← (c .before .before .before .read-address .ensures), ← (c .before .before .read-u32 .ensures), ← (c .before .out-of-bulk .ensures), c .if1 .taken, and-false, or-false)
+unfolding fillPasses
+returns c =
+    let range = c .before in
+    let address = range .before .before in
+    rw (← (address .address-in .ensures), ← (range .before .length-in .ensures), ← (range .out-of-range .ensures), c .if1 .taken)
 
 returns-2 : tie.Need-returns-2
-unfolding quickFill
-returns-2 c = simp (← (c .before .before .before .read-address .ensures), ← (c .before .before .read-u32 .ensures), ← (c .before .out-of-bulk .ensures), c .if1 .left, and-false, or-false)
+unfolding fillPasses
+returns-2 c =
+    let range = c .before in
+    let address = range .before .before in
+    rw (← (address .address-in .ensures), ← (range .before .length-in .ensures), ← (range .out-of-range .ensures), c .if1 .left)
 
 pub quick-fill-spec : {M : Type 1} → statement M
-quick-fill-spec =
-    tie.close
-    (tie.spec (search needs) (search needs) (search needs) (search needs) returns (search needs) returns-2)
+quick-fill-spec = tie.close (tie.spec (search needs) (search needs) (search needs) returns returns-2)

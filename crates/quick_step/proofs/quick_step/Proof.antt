@@ -1,4 +1,4 @@
--- `quick_step` meets its contract. Assumes nothing.
+-- `quick_step` tries plain WRITEs first, as the definition does.
 use Prim.Native.Nat.{_≤_}
 use borrow.Author.Needs.{needs}
 use lib.ListN.{length}
@@ -7,11 +7,11 @@ use Rattle.quick_step.specs.Step.{stepOf}
 use Rattle.quick_step.proofs.quick_step.Statement.{statement}
 use Rattle.quick_step.proofs.quick_step.Tie as tie
 
--- the part's limit stands in the file, and its count is not passed
-bounds : (c : tie.After-current-part) → (c .current-part .result .limit ≤ length (c .before .before .args .file .now)) × (c .current-part .result .«operation_index» ≤ c .current-part .result .«operation_count»)
+-- the part's limit stands in the file
+bounds : (c : tie.After-current-part) → c .current-part .result .limit ≤ length (c .before .before .args .file .now)
 bounds c =
     let a = c .before .before .args in
-    current-bounds (a .file .now) (a .header) (a .progress) (c .current-part .result) (a .cards .count) (c .current-part .ensures)
+    current-bounds (a .file .now) (a .header) (a .progress) (c .current-part .result) (a .cards .count) (c .current-part .ensures) .0
 
 plain-step-requires : tie.Need-plain-step-requires
 plain-step-requires c κs = bounds c
@@ -32,6 +32,4 @@ returns-2 c =
     rw (← (p .before .current-part .ensures), ← (p .plain-step .ensures), c .before .if1 .left) (c .fill-step .ensures)
 
 pub quick-step-spec : {M : Type 1} → statement M
-quick-step-spec =
-    tie.close
-    (tie.spec (search needs) plain-step-requires returns fill-step-requires returns-2)
+quick-step-spec = tie.close (tie.spec (search needs) plain-step-requires returns fill-step-requires returns-2)

@@ -41,7 +41,7 @@ loop-holds c =
     let p = c .before in
     let a = p .before .before .before .args in
     let none = with-none (targetOf (a .version) []) (a .t2 .cards) (held (a .version) (a .t2)) in
-    (omega arith, omega arith, rw (c .held .ensures .0, none) (p .put-plain .ensures .0), rw (c .held .ensures .0, none) (p .put-plain .ensures .1))
+    (omega arith, omega arith, rw (c .cards-in .ensures .0, none) (p .put-plain .ensures .0), rw (c .cards-in .ensures .0, none) (p .put-plain .ensures .1))
 
 put-card-requires : tie.Need-put-card-requires Inv-loop μ-loop
 put-card-requires c κs =

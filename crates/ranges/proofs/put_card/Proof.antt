@@ -14,6 +14,4 @@ returns-2 c =
     (rw (le-ltb _ _ (e .if1 .left), c .put-target .ensures .0, t .card-target .ensures), rw (le-ltb _ _ (e .if1 .left), c .put-target .ensures .1, t .card-target .ensures))
 
 pub put-card-spec : {M : Type 1} → statement M
-put-card-spec =
-    tie.close
-    (tie.spec returns (search needs) (search needs) (search needs) (search needs) returns-2)
+put-card-spec = tie.close (tie.spec returns (search needs) (search needs) (search needs) (search needs) returns-2)

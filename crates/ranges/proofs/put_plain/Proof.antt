@@ -35,8 +35,10 @@ returns c =
     let two = three .before .before .before in
     let one = two .before .before .before in
     let s = one .before .before .before in
-    let is = plain-bank (s .args .version) (eq-eqb _ _ (c .before .before .before .if1 .taken)) in
-    (rw (c .put-target4 .ensures .0, three .put-target3 .ensures .0, two .put-target2 .ensures .0, one .put-target .ensures .0, s .pre .0) (is .0), rw (c .put-target4 .ensures .1, three .put-target3 .ensures .1, two .put-target2 .ensures .1, one .put-target .ensures .1, s .pre .1) (is .1))
+    let is = plain-bank (s .args .version) (eq-eqb _ _ (c .before .before .before .if1 .taken)) in (
+      rw (c .put-target4 .ensures .0, three .put-target3 .ensures .0, two .put-target2 .ensures .0, one .put-target .ensures .0, s .pre .0) (is .0),
+      rw (c .put-target4 .ensures .1, three .put-target3 .ensures .1, two .put-target2 .ensures .1, one .put-target .ensures .1, s .pre .1) (is .1),
+    )
 
 put-target-requires-5 : tie.Need-put-target-requires-5
 put-target-requires-5 c κs =
@@ -52,8 +54,10 @@ returns-2 c =
     let two = three .before .before .before in
     let one = two .before .before .before in
     let s = one .before .before .before in
-    let is = plain-si22 (s .args .version) (ne-eqb _ _ (c .before .before .before .before .if1 .left)) (eq-eqb _ _ (c .before .before .before .if2 .taken)) in
-    (rw (c .put-target5 .ensures .0, three .put-target3 .ensures .0, two .put-target2 .ensures .0, one .put-target .ensures .0, s .pre .0) (is .0), rw (c .put-target5 .ensures .1, three .put-target3 .ensures .1, two .put-target2 .ensures .1, one .put-target .ensures .1, s .pre .1) (is .1))
+    let is = plain-si22 (s .args .version) (ne-eqb _ _ (c .before .before .before .before .if1 .left)) (eq-eqb _ _ (c .before .before .before .if2 .taken)) in (
+      rw (c .put-target5 .ensures .0, three .put-target3 .ensures .0, two .put-target2 .ensures .0, one .put-target .ensures .0, s .pre .0) (is .0),
+      rw (c .put-target5 .ensures .1, three .put-target3 .ensures .1, two .put-target2 .ensures .1, one .put-target .ensures .1, s .pre .1) (is .1),
+    )
 
 returns-3 : tie.Need-returns-3
 returns-3 c =
@@ -65,14 +69,4 @@ returns-3 c =
     (rw (three .put-target3 .ensures .0, two .put-target2 .ensures .0, one .put-target .ensures .0, s .pre .0) (is .0), rw (three .put-target3 .ensures .1, two .put-target2 .ensures .1, one .put-target .ensures .1, s .pre .1) (is .1))
 
 pub put-plain-spec : {M : Type 1} → statement M
-put-plain-spec =
-    tie.close
-    (tie.spec
-    put-target-requires
-    put-target-requires-2
-    put-target-requires-3
-    put-target-requires-4
-    returns
-    put-target-requires-5
-    returns-2
-    returns-3)
+put-plain-spec = tie.close (tie.spec put-target-requires put-target-requires-2 put-target-requires-3 put-target-requires-4 returns put-target-requires-5 returns-2 returns-3)

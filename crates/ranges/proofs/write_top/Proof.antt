@@ -13,6 +13,4 @@ unfolding writeTop
 returns-2 c = simp (← (c .before .before .missing .ensures), c .before .if1 .left, ← (c .write-limit .ensures))
 
 pub write-top-spec : {M : Type 1} → statement M
-write-top-spec =
-    tie.close
-    (tie.spec (search needs) returns (search needs) (search needs) (search needs) returns-2)
+write-top-spec = tie.close (tie.spec (search needs) returns (search needs) (search needs) (search needs) returns-2)

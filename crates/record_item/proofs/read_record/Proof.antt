@@ -1,36 +1,53 @@
--- `record_item::read_record` meets its contract. Assumes nothing.
+-- `record_item::read_record` meets its contract: the reader's numbers are the record's at the place, and the test of the limit comes
+-- before the rules.
 use borrow.Author.Needs.{needs}
 use native.Mathlib.Omega.{arith}
-use borrow.Author.Tests.{lt-ltb, le-ltb}
+use borrow.Author.Tests.{ltb-false}
 use Prim.Native.Nat.{_+_}
+use mathlib.Core.Path.{_≡_, sym, ap, _∙_}
+use mathlib.Core.Bool.{true, false}
+use lib.Dec.{ltb}
+use denote.Ref.{now}
 use Rattle.format.specs.Operation.{recordAt}
+use Rattle.fields.specs.declared.decode.Decoded.{Decoded}
+use Rattle.fields.specs.Decoded.{decodedRecord, operationOf}
+use Rattle.fields.proofs.Laws.{record-at}
 use Rattle.allowed.proofs.Target.{allowed-at}
 use Rattle.record_item.proofs.read_record.Statement.{statement}
 use Rattle.record_item.proofs.read_record.Tie as tie
 
+-- a record has 5 bytes
+five : (c : tie.After-decode-record) → c .decode-record .result .size ≡ 5
+unfolding decodedRecord
+five c = ap (λ (d : Decoded). d .size) (c .decode-record .ensures)
+
 returns : tie.Need-returns
 unfolding recordAt
 returns c =
-    let a = c .before .before .args in
-    simp (lt-ltb (a .limit) (a .at + 5) (omega arith))
+    let item = c .before .before in
+    let a = item .before .before .before .args in
+    let cut : ltb (a .limit) (a .at + 5) ≡ true = rw (← (five item)) (sym (c .before .passes .ensures) ∙ c .if1 .taken) in
+    rw cut
+
+add-allow : tie.Need-add-allow
+add-allow c =
+    let whole = c .before .before .before in
+    let a = whole .before .before .before .before .before .args in
+    omega (arith, ltb-false (a .limit) _ (sym (whole .before .passes .ensures) ∙ whole .if1 .left))
 
 returns-2 : tie.Need-returns-2
 unfolding recordAt
 returns-2 c =
-    let a = c .before .before .before .args in
-    simp (lt-ltb (a .limit) (a .at + 5) (omega arith))
-
-returns-3 : tie.Need-returns-3
-unfolding recordAt
-returns-3 c =
     let target = c .before in
-    let value = target .before .before in
-    let address = value .before in
-    let number = address .before in
-    let a = number .before .before .before .before .args in
-    rw (c .allow .ensures, target .find-target .ensures, target .before .target-number .ensures) (simp (le-ltb (a .limit) (a .at + 5) (omega arith), ← (number .byte-at .ensures), ← (address .read-u24 .ensures), ← (value .byte-at2 .ensures), allowed-at))
+    let operation = target .before .before in
+    let whole = operation .before in
+    let item = whole .before .before in
+    let a = item .before .before .before .args in
+    let file = now (a .file) in
+    let cut : ltb (a .limit) (a .at + 5) ≡ false = rw (← (five item)) (sym (whole .before .passes .ensures) ∙ whole .if1 .left) in
+    let numbers = operation .operation-of .ensures ∙ ap operationOf (item .decode-record .ensures ∙ ap decodedRecord (item .before .item-bytes .ensures)) ∙ record-at file (a .at) 16 (omega arith) in
+    rw (c .allow .ensures, target .find-target .ensures, target .before .target-number .ensures)
+    (simp (cut, five item, numbers, allowed-at))
 
 pub read-record-spec : {M : Type 1} → statement M
-read-record-spec =
-    tie.close
-    (tie.spec returns returns-2 (search needs) (search needs) (search needs) (search needs) (search needs) (search needs) (search needs) (search needs) (search needs) returns-3)
+read-record-spec = tie.close (tie.spec (search needs) (search needs) (search needs) returns (search needs) (search needs) (search needs) add-allow (search needs) returns-2)

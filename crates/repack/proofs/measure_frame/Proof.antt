@@ -1,5 +1,4 @@
--- `repack::measure_frame` meets its contract: what is known, noted and measured, with what the records still to take add, is
--- the whole. Assumes nothing.
+-- The loop's invariant: what is known, noted and measured, with what the records still to take add, is the whole.
 use Prim.Native.Nat.{ℕ, _+_, _-_, _*_, _≤_}
 use mathlib.Core.Path.{_≡_, refl, sym, ap, _∙_}
 use mathlib.Core.Bool.{true}
@@ -22,7 +21,7 @@ use Rattle.repack.proofs.measure_frame.Statement.{statement}
 use Rattle.repack.proofs.measure_frame.Tie as tie
 
 abbrev Inv-loop : tie.InvT-loop
-Inv-loop file start count known noted heads₀ next₀ places₀ spots₀ numbers₀ at₀ left₀ waves₀ uses₀ size₀ heads next places spots numbers at left waves uses size =
+Inv-loop file start count known noted heads₀ next₀ places₀ spots₀ numbers₀ write copy at₀ left₀ waves₀ uses₀ size₀ heads next places spots numbers at left waves uses size =
     (at + left * 5 ≡ start + count * 5)
     × Table file heads next places waves
     × (frameWaves (wavesIn file places₀ known) file count start ≡ frameWaves (wavesIn file places waves) file left at)
@@ -34,28 +33,30 @@ Inv-loop file start count known noted heads₀ next₀ places₀ spots₀ number
     × (uses * 1280 ≤ at)
 
 abbrev μ-loop : tie.MeasureT-loop
-μ-loop file start count known noted heads₀ next₀ places₀ spots₀ numbers₀ at₀ left₀ waves₀ uses₀ size₀ heads next places spots numbers at left waves uses size = left
+μ-loop file start count known noted heads₀ next₀ places₀ spots₀ numbers₀ write copy at₀ left₀ waves₀ uses₀ size₀ heads next places spots numbers at left waves uses size = left
 
 -- a wave starts, and its records lie in the file
-starts : (c : tie.Then1 Inv-loop μ-loop) → startsWave (recordsAt (c .before .before .before .before .before .args .file .now) (c .before .before .before .loop .left) (c .before .before .before .loop .at)) ≡ true
+starts : (c : tie.Then1 Inv-loop μ-loop) → startsWave (recordsAt (c .before .before .before .before .before .before .before .args .file .now) (c .before .before .before .loop .left) (c .before .before .before .loop .at)) ≡ true
 starts c = sym (c .before .starts-wave .ensures) ∙ c .if1 .taken
 
 long : (c : tie.Then1 Inv-loop μ-loop) → 256 ≤ c .before .before .before .loop .left
-long c = let l = c .before .before .before .loop in wave-long (c .before .before .before .before .before .args .file .now) (l .left) (l .at) (starts c)
+long c = let l = c .before .before .before .loop in wave-long (c .before .before .before .before .before .before .before .args .file .now) (l .left) (l .at) (starts c)
 
 few : (c : tie.After-add-wave Inv-loop μ-loop) → c .add-wave .result .number ≤ 11468
 few c =
-    let l = c .before .before .before .before .before .before .before .loop in
-    omega (arith, c .add-wave .ensures .number-is, number-few (c .before .before .before .before .before .before .before .before .before .args .file .now) (l .heads) (l .next) (l .places) (l .waves) (l .at) (l .inv .1))
+    let p = c .before .before .before .before .before .before .before in
+    let s = p .before .before .before .before in
+    let l = p .loop in
+    omega (arith, c .add-wave .ensures .number-is, number-few (s .args .file .now) (l .heads) (l .next) (l .places) (l .waves) (l .at) (l .inv .1))
 
 loop-holds : tie.Need-loop-holds Inv-loop μ-loop
-loop-holds c = let p = c .before .pre in (refl, p .0, refl, omega arith, omega arith, omega arith, p .1, refl, p .4)
+loop-holds c = let p = c .before .before .before .pre in (refl, p .0, refl, omega arith, omega arith, omega arith, p .1, refl, p .4)
 
 add-wave-requires : tie.Need-add-wave-requires Inv-loop μ-loop
 add-wave-requires c κs =
     let l = c .before .before .before .before .before .before .loop in
     let more = long (c .before .before .before) in
-    (l .inv .1, omega arith, l .inv .4, c .before .before .before .before .before .before .before .before .pre .5)
+    (l .inv .1, omega arith, l .inv .4, c .before .before .before .before .before .before .before .before .before .before .pre .5)
 
 note-use-requires : tie.Need-note-use-requires Inv-loop μ-loop
 note-use-requires c κs =
@@ -80,11 +81,15 @@ loop-less c = omega (arith, long (c .before .before .before .before .before .bef
 
 loop-again : tie.Need-loop-again Inv-loop μ-loop
 loop-again c =
-    let l = c .before .before .before .before .before .before .before .before .before .before .loop in
-    let file = c .before .before .before .before .before .before .before .before .before .before .before .before .args .file .now in
-    let wave = starts (c .before .before .before .before .before .before .before) in
-    let records = long (c .before .before .before .before .before .before .before) in
-    let more = c .before .before .before .add-wave .ensures in
+    let t = c .before .before .before in
+    let u = t .before .before .before .before in
+    let p = u .before .before .before in
+    let s = p .before .before .before .before in
+    let l = p .loop in
+    let file = s .args .file .now in
+    let wave = starts (u) in
+    let records = long (u) in
+    let more = t .add-wave .ensures in
     let noting = c .note-use .ensures in (
       omega arith,
       more .table,
@@ -92,7 +97,7 @@ loop-again c =
       omega (arith, l .inv .3, size-wave file 0 [] (l .left) (l .at) wave),
       omega (arith, more .more),
       omega arith,
-      rw (noting .0, noting .1) (noted-more (l .inv .6) more (omega arith) (few (c .before .before .before))),
+      rw (noting .0, noting .1) (noted-more (l .inv .6) more (omega arith) (few (t))),
       l .inv .7 ∙ rw (uses-wave file (l .left) (l .at) wave, noting .0) (taken-more (l .inv .6) (l .at) (omega arith) (usesAt file (l .left - 256) (l .at + 1280))),
       omega arith,
     )
@@ -112,7 +117,7 @@ loop-less-2 c = omega arith
 loop-again-2 : tie.Need-loop-again-2 Inv-loop μ-loop
 loop-again-2 c =
     let l = c .before .before .before .loop in
-    let file = c .before .before .before .before .before .args .file .now in
+    let file = c .before .before .before .before .before .before .before .args .file .now in
     let some = c .before .before .loop-test .taken in
     let single = sym (c .before .starts-wave .ensures) ∙ c .if1 .left in (
       omega arith,
@@ -129,7 +134,7 @@ loop-again-2 c =
 returns : tie.Need-returns Inv-loop μ-loop
 returns c =
     let l = c .before .loop in
-    let file = c .before .before .before .args .file .now in
+    let file = c .before .before .before .before .before .args .file .now in
     let none : l .left ≡ 0 = omega arith in
     record {
       table = l .inv .1;
@@ -145,4 +150,5 @@ returns c =
 pub measure-frame-spec : {M : Type 1} → statement M
 measure-frame-spec =
     tie.close
-    (tie.spec Inv-loop μ-loop loop-holds (search needs) add-wave-requires note-use-requires add-uses add-at sub-left add-size loop-less loop-again add-at-2 sub-left-2 add-size-2 loop-less-2 loop-again-2 returns)
+    (tie.spec Inv-loop μ-loop (search needs) (search needs) loop-holds (search needs) add-wave-requires note-use-requires add-uses add-at sub-left add-size loop-less loop-again add-at-2
+    sub-left-2 add-size-2 loop-less-2 loop-again-2 returns)

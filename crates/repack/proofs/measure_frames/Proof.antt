@@ -1,5 +1,4 @@
--- `repack::measure_frames` meets its contract: what is known, noted and measured, with what the frames still to take add, is the
--- whole. Assumes nothing.
+-- The loop's invariant: what is known, noted and measured, with what the frames still to take add, is the whole.
 use Prim.Native.Nat.{_+_, _-_, _*_, _≤_}
 use mathlib.Core.Path.{_≡_, refl, sym, _∙_}
 use mathlib.Core.List.{[], _++_, append-nil}
@@ -34,10 +33,16 @@ abbrev μ-loop : tie.MeasureT-loop
 μ-loop file start count heads₀ next₀ places₀ spots₀ numbers₀ at₀ left₀ waves₀ uses₀ size₀ heads next places spots numbers at left waves uses size = left
 
 -- the frame lies in the file
-inside : (c : tie.After-struct-known Inv-loop μ-loop) → c .before .before .before .before .before .before .before .before .before .loop .at + (2 + c .before .before .before .before .before .before .before .read-u16 .result * 5) ≤ length (c .before .before .before .before .before .before .before .before .before .before .before .args .file .now)
+inside : (c : tie.After-struct-known Inv-loop μ-loop)
+    → c .before .before .before .before .before .before .before .before .before .loop .at + (2 + c .before .before .before .before .before .before .before .read-u16 .result * 5) ≤ length
+    (c .before .before .before .before .before .before .before .before .before .before .before .args .file .now)
 inside c =
-    let l = c .before .before .before .before .before .before .before .before .before .loop in
-    omega (arith, frame-within (c .before .before .before .before .before .before .before .before .before .before .before .args .file .now) (l .left) (l .at) (c .before .before .before .before .before .before .before .before .loop-test .taken), c .before .before .before .before .before .before .before .read-u16 .ensures, l .inv .0)
+    let t = c .before .before .before .before .before .before .before in
+    let u = t .before in
+    let p = u .before in
+    let s = p .before .before in
+    let l = p .loop in
+    omega (arith, frame-within (s .args .file .now) (l .left) (l .at) (u .loop-test .taken), t .read-u16 .ensures, l .inv .0)
 
 loop-holds : tie.Need-loop-holds Inv-loop μ-loop
 loop-holds c = (c .before .pre .2, c .before .pre .0, refl, omega arith, omega arith, omega arith, c .before .pre .1, refl, omega arith)
@@ -49,9 +54,13 @@ add-measure-frame c =
 
 measure-frame-requires : tie.Need-measure-frame-requires Inv-loop μ-loop
 measure-frame-requires c κs =
-    let l = c .before .before .before .before .before .before .before .loop in
-    let within = frame-within (c .before .before .before .before .before .before .before .before .before .args .file .now) (l .left) (l .at) (c .before .before .before .before .before .before .loop-test .taken) in
-    (l .inv .1, l .inv .6, omega (arith, within, c .before .before .before .before .before .read-u16 .ensures, l .inv .0), omega arith, omega arith, c .before .before .before .before .before .before .before .before .before .pre .3)
+    let t = c .before .before .before .before .before in
+    let u = t .before in
+    let p = u .before in
+    let s = p .before .before in
+    let l = p .loop in
+    let within = frame-within (s .args .file .now) (l .left) (l .at) (u .loop-test .taken) in
+    (l .inv .1, l .inv .6, omega (arith, within, t .read-u16 .ensures, l .inv .0), omega arith, omega arith, s .pre .3)
 
 add-size : tie.Need-add-size Inv-loop μ-loop
 add-size c = omega (arith, c .before .measure-frame .ensures .small, inside c)
@@ -76,13 +85,26 @@ loop-less c = omega arith
 
 loop-again : tie.Need-loop-again Inv-loop μ-loop
 loop-again c =
-    let l = c .before .before .before .before .before .before .before .before .before .loop in
+    let t = c .before .before .before .before .before .before .before in
+    let u = t .before in
+    let p = u .before in
+    let s = p .before .before in
+    let l = p .loop in
     let frame = c .before .measure-frame .ensures in
-    let file = c .before .before .before .before .before .before .before .before .before .before .before .args .file .now in
-    let place = l .at + (2 + c .before .before .before .before .before .before .before .read-u16 .result * 5) in
-    let behind : behindFrame file (l .at) ≡ place = omega (arith, c .before .before .before .before .before .before .before .read-u16 .ensures) in
-    let on = onward file (l .left) (l .at) (l .waves) (l .uses) (l .places) (l .spots) _ _ _ _ _ _ _ _ _ place (c .before .before .before .before .before .before .before .before .loop-test .taken) (sym (c .before .before .before .before .before .before .before .read-u16 .ensures)) behind frame in
-    (omega (arith, on .end-on, l .inv .0), frame .table, l .inv .2 ∙ on .waves-on, omega (arith, on .size-on, l .inv .3), omega (arith, frame .few), omega (arith, frame .small), frame .noting, l .inv .7 ∙ on .uses-on, omega (arith, frame .few-uses))
+    let file = s .args .file .now in
+    let place = l .at + (2 + t .read-u16 .result * 5) in
+    let behind : behindFrame file (l .at) ≡ place = omega (arith, t .read-u16 .ensures) in
+    let on = onward file (l .left) (l .at) (l .waves) (l .uses) (l .places) (l .spots) _ _ _ _ _ _ _ _ _ place (u .loop-test .taken) (sym (t .read-u16 .ensures)) behind frame in (
+      omega (arith, on .end-on, l .inv .0),
+      frame .table,
+      l .inv .2 ∙ on .waves-on,
+      omega (arith, on .size-on, l .inv .3),
+      omega (arith, frame .few),
+      omega (arith, frame .small),
+      frame .noting,
+      l .inv .7 ∙ on .uses-on,
+      omega (arith, frame .few-uses),
+    )
 
 returns : tie.Need-returns Inv-loop μ-loop
 returns c =
@@ -103,4 +125,5 @@ returns c =
 pub measure-frames-spec : {M : Type 1} → statement M
 measure-frames-spec =
     tie.close
-    (tie.spec Inv-loop μ-loop loop-holds (search needs) (search needs) add-measure-frame measure-frame-requires add-size add-size-2 mul-at add-at add-at-2 sub-left loop-less loop-again returns)
+    (tie.spec Inv-loop μ-loop loop-holds (search needs) (search needs) add-measure-frame measure-frame-requires add-size add-size-2 mul-at add-at add-at-2 sub-left loop-less loop-again
+    returns)

@@ -1,4 +1,4 @@
--- `repack_file::write_master` meets its contract. Assumes nothing.
+-- The opening and the frames stand behind the front, each where the layout says.
 use Prim.Native.Nat.{_+_, _*_}
 use mathlib.Core.Path.{refl, sym}
 use mathlib.Core.List.{[], _++_, append-nil}
@@ -10,7 +10,7 @@ use Rattle.format.specs.Written.{written}
 use Rattle.master.specs.Places.{masterOf}
 use Rattle.wave_table.specs.Table.{wavesIn}
 use Rattle.master.specs.Result.{frameBytes}
-use Rattle.written_items.proofs.Writing.{starts, wrote, ends}
+use Rattle.bytes_put_fields.proofs.Writing.{starts, wrote, ends}
 use Rattle.repack_opening.specs.Opening.{openingPart}
 use Rattle.repack_layout.specs.Layout.{pcmPool, frontOf}
 use Rattle.repack_file.proofs.Frames.{lists, marked, frames-are}
@@ -49,8 +49,12 @@ put-frames-requires c κs =
 
 returns : tie.Need-returns
 returns c =
-    let a = c .before .before .before .before .before .before .before .before .before .before .before .before .before .before .before .before .before .args in
-    let p = c .before .before .before .before .before .before .before .before .before .before .before .before .before .before .before .before .before .pre in
+    let t = c .before .before .before .before in
+    let u = t .before .before .before in
+    let v = u .before .before .before .before in
+    let s = v .before .before .before .before .before .before in
+    let a = s .args in
+    let p = s .pre in
     let file = a .file .now in
     let places = a .places .now in
     let f = frontOf file (a .header) (a .pcm) (a .found .waves) (a .layout) places in
@@ -61,12 +65,10 @@ returns c =
     let fits = front-fits (p .0) (p .1) (a .buffer .now) (p .2) (p .3) in
     let opens = front-size fits in
     let w₀ = starts (written (repacked (masterOf file (a .header)))) 0 (a .buffer .now) (omega arith) in
-    let w₁ = wrote w₀ f (o ++ r) (length f) {place′ = a .layout .opening} parts refl (omega arith) (c .before .before .before .before .before .before .before .before .before .before .before .write-front .ensures) in
-    let w₂ = wrote w₁ o r (length o) {place′ = a .layout .frames} refl refl (frames-at (p .0) (p .1)) (c .before .before .before .before .before .before .before .put-opening .ensures) in
-    let done = wrote w₂ r [] (length r) {place′ = a .layout .frames + length r} (sym (append-nil r)) refl refl (rw (c .before .before .before .before .pcm-pool .ensures .0, frames-are (p .0) (pcmPool (a .pcm))) at (c .before .before .put-frames .ensures)) in
+    let w₁ = wrote w₀ f (o ++ r) (length f) {place′ = a .layout .opening} parts refl (omega arith) (v .write-front .ensures) in
+    let w₂ = wrote w₁ o r (length o) {place′ = a .layout .frames} refl refl (frames-at (p .0) (p .1)) (u .put-opening .ensures) in
+    let done = wrote w₂ r [] (length r) {place′ = a .layout .frames + length r} (sym (append-nil r)) refl refl (rw (t .pcm-pool .ensures .0, frames-are (p .0) (pcmPool (a .pcm))) at (c .before .before .put-frames .ensures)) in
     ends done refl .0
 
 pub write-master-spec : {M : Type 1} → statement M
-write-master-spec =
-    tie.close
-    (tie.spec (search needs) (search needs) mul-start add-start write-front-requires put-opening-requires (search needs) put-frames-requires (search needs) returns)
+write-master-spec = tie.close (tie.spec (search needs) (search needs) mul-start add-start write-front-requires put-opening-requires (search needs) put-frames-requires (search needs) returns)

@@ -1,4 +1,4 @@
--- `repack_frames::put_frames` meets its contract: the frames still to write, behind those that stand, are the whole. Assumes nothing.
+-- The loop's invariant: the frames still to write, behind those that stand, are the whole.
 use Prim.Native.Nat.{_+_, _-_, _*_, _≤_}
 use mathlib.Core.Path.{_≡_, refl, ap, _∙_}
 use native.Mathlib.Omega.{arith}
@@ -10,7 +10,7 @@ use Rattle.master.specs.Uses.{usesAt, MarkedFrames, frameBy, framesBy}
 use Rattle.master.proofs.Master.{frames-behind, frame-within}
 use Rattle.master.proofs.Numbered.{frames-by-none, frames-by-next}
 use Rattle.master.proofs.Uses.{frame-marked, frames-marked}
-use Rattle.written_items.proofs.Writing.{Writing, starts, wrote, ends}
+use Rattle.bytes_put_fields.proofs.Writing.{Writing, starts, wrote, ends}
 use Rattle.repack_frames.proofs.put_frames.Statement.{statement}
 use Rattle.repack_frames.proofs.put_frames.Tie as tie
 
@@ -24,10 +24,14 @@ abbrev μ-loop : tie.MeasureT-loop
 μ-loop file start count base spots numbers buffer₀ at from₀ left₀ place₀ used₀ buffer from left place used = left
 
 -- the frame lies in the file
-inside : (c : tie.After-read-u16 Inv-loop μ-loop) → c .before .before .before .before .before .before .loop .from + (2 + c .read-u16 .result * 5) ≤ length (c .before .before .before .before .before .before .before .before .before .args .file .now)
+inside : (c : tie.After-read-u16 Inv-loop μ-loop)
+    → c .before .before .before .before .before .before .loop .from + (2 + c .read-u16 .result * 5) ≤ length (c .before .before .before .before .before .before .before .before .before .args .file .now)
 inside c =
-    let l = c .before .before .before .before .before .before .loop in
-    omega (arith, frame-within (c .before .before .before .before .before .before .before .before .before .args .file .now) (l .left) (l .from) (c .before .before .before .before .before .loop-test .taken), c .read-u16 .ensures, l .inv .0)
+    let t = c .before .before .before .before .before in
+    let p = t .before in
+    let s = p .before .before .before in
+    let l = p .loop in
+    omega (arith, frame-within (s .args .file .now) (l .left) (l .from) (t .loop-test .taken), c .read-u16 .ensures, l .inv .0)
 
 loop-holds : tie.Need-loop-holds Inv-loop μ-loop
 loop-holds c =
@@ -37,32 +41,29 @@ loop-holds c =
 
 put-frame-requires : tie.Need-put-frame-requires Inv-loop μ-loop
 put-frame-requires c κs =
+    let s = c .before .before .before .before .before in
     let l = c .before .before .loop in
-    let a = c .before .before .before .before .before .args in
-    let p = c .before .before .before .before .before .pre in
+    let a = s .args in
+    let p = s .pre in
     let file = a .file .now in
     let numbers = a .numbers .now in
     let more = c .before .loop-test .taken in
     let next = frames-by-next numbers (a .base) file (l .used) (l .left) (l .from) more in
-    let size = ap length next ∙ length-append (frameBy numbers (a .base) (l .used) file (l .from)) (framesBy numbers (a .base) (l .used + length (usesAt file (be 2 file (l .from)) (l .from + 2))) file (l .left - 1) (behindFrame file (l .from))) in
+    let size =
+    ap length next ∙ length-append (frameBy numbers (a .base) (l .used) file (l .from))
+    (framesBy numbers (a .base) (l .used + length (usesAt file (be 2 file (l .from)) (l .from + 2))) file (l .left - 1) (behindFrame file (l .from))) in
     (p .0, frame-marked (l .inv .1) more, omega (arith, frame-within file (l .left) (l .from) more, l .inv .0), p .3, omega (arith, size, l .inv .2 .fits))
-
-mul-from : tie.Need-mul-from Inv-loop μ-loop
-mul-from c = omega (arith, inside c)
-
-add-from : tie.Need-add-from Inv-loop μ-loop
-add-from c = omega (arith, inside c)
-
-add-from-2 : tie.Need-add-from-2 Inv-loop μ-loop
-add-from-2 c = omega (arith, inside c)
 
 loop-again : tie.Need-loop-again Inv-loop μ-loop
 loop-again c =
-    let l = c .before .before .before .before .before .before .loop in
-    let a = c .before .before .before .before .before .before .before .before .before .args in
+    let t = c .before .before .before .before .before in
+    let p = t .before in
+    let s = p .before .before .before in
+    let l = p .loop in
+    let a = s .args in
     let file = a .file .now in
     let numbers = a .numbers .now in
-    let more = c .before .before .before .before .before .loop-test .taken in
+    let more = t .loop-test .taken in
     let place = l .from + (2 + c .read-u16 .result * 5) in
     let behind : behindFrame file (l .from) ≡ place = omega (arith, c .read-u16 .ensures) in
     let wrote-frame = c .before .before .before .put-frame .ensures in
@@ -70,7 +71,8 @@ loop-again c =
     rw (← behind, wrote-frame .2) (
       omega (arith, frames-behind file (l .left) (l .from) more, l .inv .0),
       frames-marked (l .inv .1) more refl,
-      wrote (l .inv .2) here (framesBy numbers (a .base) (l .used + length (usesAt file (be 2 file (l .from)) (l .from + 2))) file (l .left - 1) (behindFrame file (l .from))) (length here) (frames-by-next numbers (a .base) file (l .used) (l .left) (l .from) more) refl (wrote-frame .1) (wrote-frame .0),
+      wrote (l .inv .2) here (framesBy numbers (a .base) (l .used + length (usesAt file (be 2 file (l .from)) (l .from + 2))) file (l .left - 1) (behindFrame file (l .from))) (length here)
+          (frames-by-next numbers (a .base) file (l .used) (l .left) (l .from) more) refl (wrote-frame .1) (wrote-frame .0),
     )
 
 returns : tie.Need-returns Inv-loop μ-loop
@@ -83,4 +85,5 @@ returns c =
 pub put-frames-spec : {M : Type 1} → statement M
 put-frames-spec =
     tie.close
-    (tie.spec Inv-loop μ-loop loop-holds put-frame-requires (search needs) (search needs) mul-from add-from add-from-2 (search needs) (search needs) loop-again (search needs) returns)
+    (tie.spec Inv-loop μ-loop loop-holds put-frame-requires (search needs) (search needs) (λ c. omega (arith, inside c)) (λ c. omega (arith, inside c)) (λ c. omega (arith, inside c))
+    (search needs) (search needs) loop-again (search needs) returns)

@@ -1,4 +1,4 @@
--- `repack_layout::fill_count` meets its contract. Assumes nothing.
+-- One FILL where PCM was written and less than all of it.
 use mathlib.Core.Path.{sym}
 use native.Mathlib.Omega.{arith}
 use Rattle.repack_layout.proofs.Numbers.{fills-none, fills-full, fills-some}

@@ -1,4 +1,4 @@
--- `repack_layout::new_header` meets its contract. Assumes nothing.
+-- The numbers of the layout fit their fields.
 use borrow.Author.Needs.{needs}
 use Rattle.repack_layout.specs.Layout.{newHeader}
 use Rattle.repack_layout.proofs.new_header.Statement.{statement}
@@ -9,4 +9,4 @@ unfolding newHeader
 returns c = search needs
 
 pub new-header-spec : {M : Type 1} → statement M
-new-header-spec = tie.close (tie.spec (search needs) (search needs) (search needs) (search needs) returns)
+new-header-spec = tie.close (tie.spec (search needs) (search needs) (search needs) (search needs) (search needs) returns)

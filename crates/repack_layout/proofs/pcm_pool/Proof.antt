@@ -1,4 +1,4 @@
--- `repack_layout::pcm_pool` meets its contract. Assumes nothing.
+-- One pool where PCM was written.
 use mathlib.Core.Path.{sym}
 use native.Mathlib.Omega.{arith}
 use Rattle.repack_layout.proofs.Numbers.{no-pool, some-pool}

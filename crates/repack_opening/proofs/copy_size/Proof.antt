@@ -1,17 +1,16 @@
--- `repack_opening::copy_size` meets its contract. Assumes nothing.
+-- A COPY where PCM was written, by the table of lengths.
 use mathlib.Core.Path.{sym, ap, _∙_}
 use lib.ListN.{length}
 use native.Mathlib.Omega.{arith}
-use Rattle.written_items.proofs.Items.{copy-size}
-use Rattle.repack_opening.proofs.Opening.{no-copy, some-copy}
+use borrow.Author.Needs.{needs}
+use Rattle.repack_opening.proofs.Opening.{no-copy, copy-long}
 use Rattle.repack_opening.proofs.copy_size.Statement.{statement}
 use Rattle.repack_opening.proofs.copy_size.Tie as tie
 
-returns : tie.Need-returns
-returns c = (sym (ap length (no-copy (c .before .args .pcm) (c .if1 .taken))), omega arith)
-
 returns-2 : tie.Need-returns-2
-returns-2 c = (sym (ap length (some-copy (c .before .args .pcm) (c .if1 .left)) ∙ copy-size 2 0 0 (c .before .args .pcm)), omega arith)
+returns-2 c =
+    let size = c .operation-size .ensures in
+    (size .0 ∙ sym (copy-long (c .before .before .args .pcm) (c .before .if1 .left)), omega arith)
 
 pub copy-size-spec : {M : Type 1} → statement M
-copy-size-spec = tie.close (tie.spec returns returns-2)
+copy-size-spec = tie.close (tie.spec (λ c. (sym (ap length (no-copy (c .before .args .pcm) (c .if1 .taken))), omega arith)) (search needs) returns-2)

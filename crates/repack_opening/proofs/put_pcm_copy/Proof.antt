@@ -1,11 +1,11 @@
--- `repack_opening::put_pcm_copy` meets its contract. Assumes nothing.
-use mathlib.Core.Path.{sym, ap}
+-- A COPY where PCM was written, and else nothing.
+use mathlib.Core.Path.{sym}
 use native.Mathlib.Omega.{arith}
 use borrow.Author.Needs.{needs}
-use lib.ListN.{length}
-use Rattle.written_items.proofs.Items.{copy-size}
+use Rattle.format.specs.declared.operation.Operation.the-variants.{Copy}
+use Rattle.bytes_put_items.proofs.Items.{item-two}
 use Rattle.big_endian.proofs.Sequence.{put-none}
-use Rattle.repack_opening.proofs.Opening.{no-copy, some-copy}
+use Rattle.repack_opening.proofs.Opening.{no-copy, some-copy, copy-long}
 use Rattle.repack_opening.proofs.put_pcm_copy.Statement.{statement}
 use Rattle.repack_opening.proofs.put_pcm_copy.Tie as tie
 
@@ -17,13 +17,12 @@ returns c =
 put-copy-requires : tie.Need-put-copy-requires
 put-copy-requires c κs =
     let a = c .before .before .before .args in
-    omega (arith, ap length (some-copy (a .pcm) (c .before .if1 .left)), copy-size 2 0 0 (a .pcm))
+    (omega arith, omega arith, omega (arith, copy-long (a .pcm) (c .before .if1 .left)))
 
 returns-2 : tie.Need-returns-2
 returns-2 c =
     let a = c .before .before .before .before .before .before .args in
-    rw (some-copy (a .pcm) (c .before .before .before .before .if1 .left)) (c .before .before .put-copy .ensures)
+    rw (some-copy (a .pcm) (c .before .before .before .before .if1 .left), item-two (Copy 2 0 0 0 (a .pcm))) (c .before .before .put-copy .ensures)
 
 pub put-pcm-copy-spec : {M : Type 1} → statement M
-put-pcm-copy-spec =
-    tie.close (tie.spec returns (search needs) put-copy-requires (search needs) returns-2)
+put-pcm-copy-spec = tie.close (tie.spec returns (search needs) put-copy-requires (search needs) returns-2)

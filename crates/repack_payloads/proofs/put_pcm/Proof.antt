@@ -1,4 +1,4 @@
--- `repack_payloads::put_pcm` meets its contract: the bytes still to write, behind those that stand, are the whole. Assumes nothing.
+-- The loop's invariant: the bytes still to write, behind those that stand, are the whole.
 use Prim.Native.Nat.{_+_, _-_, _*_, _≤_}
 use mathlib.Core.Path.{_≡_, refl, ap, _∙_}
 use mathlib.Core.List.{[], _∷_}
@@ -10,7 +10,7 @@ use Rattle.format.specs.Bytes.{byte}
 use Rattle.master.specs.Result.{pcmBytes}
 use Rattle.master.proofs.Result.{pcm-byte, pcm-skip, opening-none}
 use Rattle.big_endian.proofs.Sequence.{put-byte}
-use Rattle.written_items.proofs.Writing.{Writing, starts, wrote, told, ends}
+use Rattle.bytes_put_fields.proofs.Writing.{Writing, starts, wrote, told, ends}
 use Rattle.repack_payloads.proofs.put_pcm.Statement.{statement}
 use Rattle.repack_payloads.proofs.put_pcm.Tie as tie
 
@@ -28,13 +28,8 @@ loop-holds c =
 
 slice-write-buffer : tie.Need-slice-write-buffer Inv-loop μ-loop
 slice-write-buffer c =
-    let l = c .before .before .before .before .loop in
-    omega (arith, ap length (pcm-byte (c .before .before .before .before .before .args .file .now) (l .left) (l .from) (c .before .before .before .loop-test .taken) (c .before .if1 .taken)), l .inv .1 .fits)
-
-add-place : tie.Need-add-place Inv-loop μ-loop
-add-place c =
-    let l = c .before .before .before .before .loop in
-    omega (arith, ap length (pcm-byte (c .before .before .before .before .before .args .file .now) (l .left) (l .from) (c .before .before .before .loop-test .taken) (c .before .if1 .taken)), l .inv .1 .fits)
+    let l = c .before .before .before .before in
+    omega (arith, ap length (pcm-byte (l .before .args .file .now) _ _ (c .before .before .before .loop-test .taken) (c .before .if1 .taken)), l .loop .inv .1 .fits)
 
 loop-again : tie.Need-loop-again Inv-loop μ-loop
 loop-again c =
@@ -44,20 +39,15 @@ loop-again c =
     let rest = pcmBytes file (l .left - 1) (l .from + 5) in (
       omega arith,
       ⊎-elim
-          (λ w.
-          let is = pcm-byte file (l .left) (l .from) more (w .0 .taken) in
+          (λ w. let is = pcm-byte file (l .left) (l .from) more (w .0 .taken) in
           wrote (l .inv .1) (byte file (l .from + 4) ∷ []) rest 1 is refl (w .3) (w .2 ∙ put-byte (byte file (l .from + 4)) (l .place) (l .buffer) (omega (arith, ap length is, l .inv .1 .fits))))
           (λ w. told (l .inv .1) rest (pcm-skip file (l .left) (l .from) more (w .0 .left)) (w .2) (w .1))
           (c .if1 .came),
     )
 
-returns : tie.Need-returns Inv-loop μ-loop
-returns c =
-    let l = c .before .loop in
-    let none : l .left ≡ 0 = omega arith in
-    ends (l .inv .1) (rw none (opening-none (c .before .before .args .file .now) (l .from) .0)) .0
-
 pub put-pcm-spec : {M : Type 1} → statement M
 put-pcm-spec =
     tie.close
-    (tie.spec Inv-loop μ-loop loop-holds (search needs) (search needs) (search needs) slice-write-buffer add-place (search needs) (search needs) (search needs) loop-again (search needs) returns)
+    (tie.spec Inv-loop μ-loop loop-holds (search needs) (search needs) (search needs) slice-write-buffer (λ c. omega (arith, slice-write-buffer c)) (search needs) (search needs)
+    (search needs) loop-again (search needs)
+    (λ c. let none : c .before .loop .left ≡ 0 = omega arith in ends (c .before .loop .inv .1) (rw none (opening-none (c .before .before .args .file .now) (c .before .loop .from) .0)) .0))

@@ -1,4 +1,4 @@
--- `repack_payloads::put_wave` meets its contract: the bytes still to write, behind those that stand, are the whole. Assumes nothing.
+-- The loop's invariant: the bytes still to write, behind those that stand, are the whole.
 use Prim.Native.Nat.{_+_, _-_, _*_}
 use mathlib.Core.Path.{_≡_, refl}
 use mathlib.Core.List.{[], _∷_}
@@ -8,7 +8,7 @@ use Rattle.format.specs.Bytes.{byte}
 use Rattle.master.specs.Places.{valuesAt}
 use Rattle.master.proofs.Pieces.{values-next, values-none, values-count}
 use Rattle.big_endian.proofs.Sequence.{put-byte}
-use Rattle.written_items.proofs.Writing.{Writing, starts, wrote, ends}
+use Rattle.bytes_put_fields.proofs.Writing.{Writing, starts, wrote, ends}
 use Rattle.repack_payloads.proofs.put_wave.Statement.{statement}
 use Rattle.repack_payloads.proofs.put_wave.Tie as tie
 
@@ -38,8 +38,10 @@ loop-again : tie.Need-loop-again Inv-loop μ-loop
 loop-again c =
     let l = c .before .before .loop in
     let file = c .before .before .before .args .file .now in
+    let value = byte file (l .from + 4) in
     let room = values-count file (l .left) (l .from) in
-    (omega arith, wrote (l .inv .1) (byte file (l .from + 4) ∷ []) (valuesAt file (l .left - 1) (l .from + 5)) 1 (values-next file (l .left) (l .from) (c .before .loop-test .taken)) refl refl (put-byte (byte file (l .from + 4)) (l .place) (l .buffer) (omega (arith, l .inv .1 .fits))))
+    let next = values-next file (l .left) (l .from) (c .before .loop-test .taken) in
+    (omega arith, wrote (l .inv .1) (value ∷ []) (valuesAt file (l .left - 1) (l .from + 5)) 1 next refl refl (put-byte value (l .place) (l .buffer) (omega (arith, l .inv .1 .fits))))
 
 returns : tie.Need-returns Inv-loop μ-loop
 returns c =

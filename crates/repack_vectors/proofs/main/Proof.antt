@@ -1,4 +1,4 @@
--- `repack_vectors::main` is safe and ends: each turn leaves fewer entries to read. Assumes nothing.
+-- The loop ends: each turn leaves fewer entries to read.
 use borrow.Author.Needs.{needs}
 use Rattle.repack_vectors.proofs.main.Statement.{statement}
 use Rattle.repack_vectors.proofs.main.Tie as tie
@@ -6,15 +6,5 @@ use Rattle.repack_vectors.proofs.main.Tie as tie
 pub main-spec : {M : Type 1} → statement M
 main-spec =
     tie.close
-    (tie.spec
-    (λ input counts₀ counts. Unit {0})
-    (λ input counts₀ counts. counts .left)
-    (λ c. search needs)
-    (λ c κs. search needs)
-    (λ c κs. search needs)
-    (λ c. search needs)
-    (λ c κs. search needs)
-    (λ c. search needs)
-    (λ c. search needs)
-    (λ c κs. search needs)
-    (λ c. search needs))
+    (tie.spec (λ input counts₀ counts. Unit {0}) (λ input counts₀ counts. counts .left) (search needs) (search needs) (search needs) (search needs) (search needs) (search needs)
+    (search needs) (search needs) (search needs))

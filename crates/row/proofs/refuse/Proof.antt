@@ -1,4 +1,4 @@
--- `row::refuse` meets its contract. Assumes nothing.
+-- `row::refuse` meets its contract: each arm of the test is an arm of the definition.
 use Rattle.row.proofs.refuse.Statement.{statement}
 use Rattle.row.proofs.refuse.Tie as tie
 

@@ -1,4 +1,4 @@
--- `row::then` meets its contract. Assumes nothing.
+-- `row::then` meets its contract: each arm of the match is an arm of the definition.
 use borrow.Author.Needs.{needs}
 use Rattle.row.proofs.then.Statement.{statement}
 use Rattle.row.proofs.then.Tie as tie

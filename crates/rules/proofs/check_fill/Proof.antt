@@ -18,5 +18,4 @@ unfolding fillRules
 returns-3 c = search (decided, ← (c .before .before .before .missing .ensures), c .before .before .if1 .left, ← (c .before .outside .ensures), c .if2 .left)
 
 pub check-fill-spec : {M : Type 1} → statement M
-check-fill-spec =
-    tie.close (tie.spec (search needs) returns (search needs) returns-2 returns-3)
+check-fill-spec = tie.close (tie.spec (search needs) returns (search needs) returns-2 returns-3)

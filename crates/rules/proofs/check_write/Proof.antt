@@ -18,5 +18,4 @@ unfolding writeRules
 returns-3 c = search (decided, ← (c .before .before .before .missing .ensures), c .before .before .if1 .left, ← (c .before .write-limit .ensures))
 
 pub check-write-spec : {M : Type 1} → statement M
-check-write-spec =
-    tie.close (tie.spec (search needs) returns (search needs) returns-2 returns-3)
+check-write-spec = tie.close (tie.spec (search needs) returns (search needs) returns-2 returns-3)

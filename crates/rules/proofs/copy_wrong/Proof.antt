@@ -30,6 +30,4 @@ unfolding copyWrong
 returns-6 c = search (decided, ← (c .before .before .before .before .kind .ensures))
 
 pub copy-wrong-spec : {M : Type 1} → statement M
-copy-wrong-spec =
-    tie.close
-    (tie.spec (search needs) (search needs) returns (search needs) returns-2 returns-3 returns-4 returns-5 returns-6)
+copy-wrong-spec = tie.close (tie.spec (search needs) (search needs) returns (search needs) returns-2 returns-3 returns-4 returns-5 returns-6)

@@ -8,31 +8,23 @@ use native.Mathlib.Omega.{arith}
 use Rattle.sections.proofs.counts_wrong.Statement.{statement}
 use Rattle.sections.proofs.counts_wrong.Tie as tie
 
-returns : tie.Need-returns
-unfolding countsWrong
-returns c = simp (eq-eqb _ _ (c .if1 .taken))
-
-returns-2 : tie.Need-returns-2
-unfolding countsWrong
-returns-2 c = simp (lt-ltb _ _ (c .if2 .taken), or-true)
-
-returns-3 : tie.Need-returns-3
-unfolding countsWrong
-returns-3 c = simp (ne-eqb _ _ (c .if3 .taken), or-true)
-
-returns-4 : tie.Need-returns-4
-unfolding countsWrong
-returns-4 c = simp (lt-ltb _ _ (c .if4 .taken), or-true)
-
 add-behind : tie.Need-add-behind
 add-behind c = omega (arith, header-small (c .before .before .before .before .before .before .before .before .before .before .args .header .version), c .before .header-size .ensures)
 
 returns-5 : tie.Need-returns-5
 unfolding countsWrong
 returns-5 c =
-    rw (ne-eqb _ _ (c .before .before .before .before .before .before .before .before .before .if1 .left), le-ltb _ _ (c .before .before .before .before .before .before .before .if2 .left), eq-eqb _ _ (c .before .before .before .before .before .if3 .left), le-ltb _ _ (c .before .before .before .if4 .left), ← (c .before .before .header-size .ensures))
+    rw (
+      ne-eqb _ _ (c .before .before .before .before .before .before .before .before .before .if1 .left),
+      le-ltb _ _ (c .before .before .before .before .before .before .before .if2 .left),
+      eq-eqb _ _ (c .before .before .before .before .before .if3 .left),
+      le-ltb _ _ (c .before .before .before .if4 .left),
+      ← (c .before .before .header-size .ensures),
+    )
 
 pub counts-wrong-spec : {M : Type 1} → statement M
+unfolding countsWrong
 counts-wrong-spec =
     tie.close
-    (tie.spec returns returns-2 (search needs) returns-3 returns-4 (search needs) (search needs) (search needs) add-behind (search needs) returns-5)
+    (tie.spec (λ c. simp (eq-eqb _ _ (c .if1 .taken))) (λ c. simp (lt-ltb _ _ (c .if2 .taken), or-true)) (search needs) (λ c. simp (ne-eqb _ _ (c .if3 .taken), or-true))
+    (λ c. simp (lt-ltb _ _ (c .if4 .taken), or-true)) (search needs) (search needs) (search needs) add-behind (search needs) returns-5)

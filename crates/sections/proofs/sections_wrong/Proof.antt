@@ -6,17 +6,9 @@ use borrow.Author.Needs.{needs}
 use Rattle.sections.proofs.sections_wrong.Statement.{statement}
 use Rattle.sections.proofs.sections_wrong.Tie as tie
 
-returns : tie.Need-returns
-unfolding sectionsWrong
-returns c = simp (ne-eqb _ _ (c .if1 .taken))
-
-returns-2 : tie.Need-returns-2
-unfolding sectionsWrong
-returns-2 c = simp (lt-ltb _ _ (c .if2 .taken), or-true)
-
-returns-3 : tie.Need-returns-3
-unfolding sectionsWrong
-returns-3 c = rw (eq-eqb _ _ (c .before .before .before .before .if1 .left), le-ltb _ _ (c .before .if2 .left))
-
 pub sections-wrong-spec : {M : Type 1} → statement M
-sections-wrong-spec = tie.close (tie.spec (search needs) returns (search needs) returns-2 returns-3)
+unfolding sectionsWrong
+sections-wrong-spec =
+    tie.close
+    (tie.spec (search needs) (λ c. simp (ne-eqb _ _ (c .if1 .taken))) (search needs) (λ c. simp (lt-ltb _ _ (c .if2 .taken), or-true))
+    (λ c. rw (eq-eqb _ _ (c .before .before .before .before .if1 .left), le-ltb _ _ (c .before .if2 .left))))

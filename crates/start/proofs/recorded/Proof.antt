@@ -1,4 +1,4 @@
--- `start::recorded` meets its contract. Assumes nothing.
+-- `recorded` is the state before the first vsync.
 use borrow.Author.Needs.{needs}
 use Rattle.start.proofs.recorded.Statement.{statement}
 use Rattle.start.proofs.recorded.Tie as tie

@@ -1,4 +1,4 @@
--- `start::start` meets its contract. Assumes nothing.
+-- `start` goes by the answer of the file check.
 use borrow.Author.Needs.{needs}
 use Rattle.start.proofs.Starts.{started-accepted, started-refused}
 use Rattle.start.proofs.start.Statement.{statement}
@@ -13,6 +13,4 @@ returns-2 c =
     rw (c .refused-player .ensures) (started-refused (c .before .before .before .before .before .before .before .args .file .now) _ _ (c .before .before .before .before .before .check-file .ensures) (c .before .before .answer2 .given .1))
 
 pub start-spec : {M : Type 1} → statement M
-start-spec =
-    tie.close
-    (tie.spec (search needs) (search needs) (search needs) (search needs) (search needs) returns returns-2)
+start-spec = tie.close (tie.spec (search needs) (search needs) (search needs) (search needs) (search needs) returns returns-2)

@@ -43,6 +43,4 @@ returns-4 c =
     sym (storable-fit (a .room) (a .size) (a .version) (a .from) (a .count) (c .before .before .before .if1 .left) (omega (arith, c .if3 .left, c .before .if2 .left, p .ensures, ap (λ (k : ℕ). a .count * k) (p .ensures .0))))
 
 pub storable-spec : {M : Type 1} → statement M
-storable-spec =
-    tie.close
-    (tie.spec returns (search needs) returns-2 mul-if3 add-if3 sub-if3 returns-3 returns-4)
+storable-spec = tie.close (tie.spec returns (search needs) returns-2 mul-if3 add-if3 sub-if3 returns-3 returns-4)

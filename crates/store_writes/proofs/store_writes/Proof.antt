@@ -23,7 +23,8 @@ use ghost.Atoms.{Atoms, sem}
 use contract.Monad.{Fun, fact, factI}
 use contract.Running.{givenOf, tables, tablesOf}
 use types.Kit.{Given, Item, ‵, raw, _⊛_, ⋆, some, later, Sq, runs, anyQ, atRet, _$_, _∵_, !, qed, by, move, keep, drop, use0, use1, use2, split, join, pick, rewrite, fsplit, fjoin, feqI, suffices, frame, await, done}
-use types.Run.{look, init, store, store-raw, forget, stop, hop, fld, from, load, lit, unit-lit, of-opd, bin, and-then, no-more, assigns, assigns-last, first, skips, jumps, blocks, branches, returns, enter, alloc1, alloc0, params1, pass1, pass0, free1, free0, exec, land, Below, again, loops}
+use types.Run.{look, init, store, store-raw, forget, stop, hop, fld, from, load, lit, unit-lit, of-opd, bin, and-then, no-more, assigns, assigns-last, first, skips, jumps, blocks, branches, returns}
+use types.Run.{enter, alloc1, alloc0, params1, pass1, pass0, free1, free0, exec, land, Below, again, loops}
 use types.Part.{whole, sub, look-in}
 use sound.WpLaws.{FmC, fmOf, WpFn-mono}
 use denote.RattleType.{owns}
@@ -50,8 +51,8 @@ use Rattle.format.specs.declared.operation.WriteRecord.{WriteRecord}
 use Rattle.format.proofs.operation.WriteRecord as T
 use Rattle.format.proofs.operation.WriteRecord.Laws as T′
 use Rattle.plain_writes.specs.Plain.{plainSize, plainWrite}
-use Rattle.writes.proofs.Body.{tail}
-use Rattle.writes.proofs.Types.{slice, bytes, word}
+use Rattle.walk_laws.proofs.Body.{tail}
+use Rattle.walk_laws.proofs.Types.{slice, bytes, word}
 use Rattle.store_writes.specs.Stored.{storable, writesStored}
 use Rattle.store_writes.proofs.Writes.{storable-fits, pasted, pasted-long, pasted-next, stored-is, stored-long}
 use Rattle.store_writes.proofs.storable as st
@@ -81,10 +82,12 @@ module _ {M : Type 1} (𝓤 : URA M) (H : Heap 𝓤) (A : Atoms 𝓤) (mem : Mem
   said : (room size ver fr cnt : ℕ) (r : ℕ) → ent 𝓤 (ensured 𝓤 H A st.ended (st.clauses 𝓤 H A mem run) tt (room, (size, (ver, (fr, (cnt, tt))))) tt r) (fact 𝓤 (r ≡ storable room size ver fr cnt))
   said room size ver fr cnt r = exE 𝓤 _ (λ ws. snd∗ 𝓤 (sem 𝓤 H A (lasts st.ended tt (room, (size, (ver, (fr, (cnt, tt))))) ws)) (fact 𝓤 (r ≡ storable room size ver fr cnt)))
 
-  said-nth : (κ : Lft) (x : RefT (List ℕ)) (ver fr i : ℕ) (r : WriteRecord) → ent 𝓤 (ensured 𝓤 H A nw.ended (nw.clauses 𝓤 H A mem run) (κ, tt) (x, (ver, (fr, (i, tt)))) tt r) (fact 𝓤 (r ≡ plainWrite ver (x .now) (fr + i * plainSize ver)))
+  said-nth : (κ : Lft) (x : RefT (List ℕ)) (ver fr i : ℕ) (r : WriteRecord)
+      → ent 𝓤 (ensured 𝓤 H A nw.ended (nw.clauses 𝓤 H A mem run) (κ, tt) (x, (ver, (fr, (i, tt)))) tt r) (fact 𝓤 (r ≡ plainWrite ver (x .now) (fr + i * plainSize ver)))
   said-nth κ x ver fr i r = exE 𝓤 _ (λ ws. snd∗ 𝓤 (sem 𝓤 H A (lasts nw.ended (κ, tt) (x, (ver, (fr, (i, tt)))) ws)) (fact 𝓤 (r ≡ plainWrite ver (x .now) (fr + i * plainSize ver))))
 
-module _ {M : Type 1} (𝓤 : URA M) (H : Heap 𝓤) (A : Atoms 𝓤) (W : Given 𝓤 H A) (mem : Memory → SProp 𝓤) (run : Routine → Fun 𝓤) (κ κ₂ : Lft) (q q₂ : Share) (b o b₂ o₂ : ℕ) (γ γ₂ : GName) (ys : List WriteRecord) (bs : List ℕ) (ver fr cnt : ℕ)
+module _ {M : Type 1} (𝓤 : URA M) (H : Heap 𝓤) (A : Atoms 𝓤) (W : Given 𝓤 H A) (mem : Memory → SProp 𝓤) (run : Routine → Fun 𝓤) (κ κ₂ : Lft) (q q₂ : Share)
+    (b o b₂ o₂ : ℕ) (γ γ₂ : GName) (ys : List WriteRecord) (bs : List ℕ) (ver fr cnt : ℕ)
     (ver-fits : ver < 2 ^ 8) (fr-fits : fr < 2 ^ 64) (cnt-fits : cnt < 2 ^ 32) (room : Room T.the-row (length ys)) (room₂ : Room u8 (length bs)) where
   abbrev x : List WriteRecord → RefT (List WriteRecord)
   x l = record { ptr = (b, o); name = γ; now = l }
@@ -136,7 +139,8 @@ module _ {M : Type 1} (𝓤 : URA M) (H : Heap 𝓤) (A : Atoms 𝓤) (W : Given
       suffices ! _ (ends-at 𝓤 H A f.ended stayed (f.clauses 𝓤 H A mem run) W (((κ, (κ₂, tt)), (q, (q₂, tt)), tt, args, vals), tt) vunit tt (zs, (tt, (tt, (tt, (tt, tt))))) (zs-long, (tt, (tt, (tt, (tt, tt)))))) $ says ! refl $
       nothing ! $ move ! (1 ∷ 0 ∷ []) $ join ! $ move ! (3 ∷ 0 ∷ []) $ join ! $ frame ! $
       fjoin ! $ pureI ! (at-slice T.the-row (x zs) (s ∷ [])) (tt, (tt, tt)) (ap (λ (k : ℕ). sliceVal (b, o) k ∷ []) (sym zs-long), subst (Room T.the-row) (sym zs-long) room) $ fjoin ! $
-      nothing ! $ owned ! u32 (Is u32) (uint-makes 𝓤 H A W w32) cnt _ (refl, cnt-fits) $ fjoin ! $ owned ! usize (Is usize) (uint-makes 𝓤 H A W w64) fr _ (refl, fr-fits) $ fjoin ! $ owned ! u8 (Is u8) (uint-makes 𝓤 H A W w8) ver _ (refl, ver-fits) $ fjoin ! $ move ! (2 ∷ 0 ∷ []) $ fjoin ! $
+      nothing ! $ owned ! u32 (Is u32) (uint-makes 𝓤 H A W w32) cnt _ (refl, cnt-fits) $ fjoin ! $ owned ! usize (Is usize) (uint-makes 𝓤 H A W w64) fr _ (refl, fr-fits) $ fjoin ! $
+      owned ! u8 (Is u8) (uint-makes 𝓤 H A W w8) ver _ (refl, ver-fits) $ fjoin ! $ move ! (2 ∷ 0 ∷ []) $ fjoin ! $
       move ! (1 ∷ 0 ∷ []) $ fjoin ! $ feqI ! (List Val) (vunit ∷ []) (vunit ∷ []) refl $ move ! (1 ∷ 0 ∷ []) $ done !
 
   -- what each callee's triple binds outside, and that the caller has what it asks
@@ -145,7 +149,9 @@ module _ {M : Type 1} (𝓤 : URA M) (H : Heap 𝓤) (A : Atoms 𝓤) (W : Given
 
   asks : ent 𝓤 (emp 𝓤) (Fits 𝓤 H A mem run .pre to)
   asks =
-      qed W [] ∵ nothing ! $ owned ! u32 (Is u32) (uint-makes 𝓤 H A W w32) cnt _ (refl, cnt-fits) $ fjoin ! $ owned ! usize (Is usize) (uint-makes 𝓤 H A W w64) fr _ (refl, fr-fits) $ fjoin ! $ owned ! u8 (Is u8) (uint-makes 𝓤 H A W w8) ver _ (refl, ver-fits) $ fjoin ! $ owned ! usize (Is usize) (uint-makes 𝓤 H A W w64) (length bs) _ (refl, room₂ .0) $ fjoin ! $ owned ! usize (Is usize) (uint-makes 𝓤 H A W w64) (length ys) _ (refl, room .0) $ fjoin ! $ nothing ! $ join ! $ nothing ! $ move ! (1 ∷ 0 ∷ []) $ join ! $ done !
+      qed W [] ∵ nothing ! $ owned ! u32 (Is u32) (uint-makes 𝓤 H A W w32) cnt _ (refl, cnt-fits) $ fjoin ! $ owned ! usize (Is usize) (uint-makes 𝓤 H A W w64) fr _ (refl, fr-fits) $
+      fjoin ! $ owned ! u8 (Is u8) (uint-makes 𝓤 H A W w8) ver _ (refl, ver-fits) $ fjoin ! $ owned ! usize (Is usize) (uint-makes 𝓤 H A W w64) (length bs) _ (refl, room₂ .0) $
+      fjoin ! $ owned ! usize (Is usize) (uint-makes 𝓤 H A W w64) (length ys) _ (refl, room .0) $ fjoin ! $ nothing ! $ join ! $ nothing ! $ move ! (1 ∷ 0 ∷ []) $ join ! $ done !
 
   abbrev Upto : Type 0
   Upto = (i : ℕ) × (i ≤ n)
@@ -182,8 +188,11 @@ module _ {M : Type 1} (𝓤 : URA M) (H : Heap 𝓤) (A : Atoms 𝓤) (W : Given
     -- its 16 bytes are in the file
     asks-nth : ent 𝓤 (sep 𝓤 (A .lft κ₂ q₂) (sem 𝓤 H A Src)) (Nth 𝓤 H A mem run .pre (to-nth i))
     asks-nth =
-        qed W (‵ (flft κ₂ q₂) ∷ ‵ Src ∷ []) ∵ nothing ! $ owned ! usize (Is usize) (uint-makes 𝓤 H A W w64) (i .0) _ (refl, i-fits) $ fjoin ! $ owned ! usize (Is usize) (uint-makes 𝓤 H A W w64) fr _ (refl, fr-fits) $ fjoin ! $ owned ! u8 (Is u8) (uint-makes 𝓤 H A W w8) ver _ (refl, ver-fits) $ fjoin ! $ move ! (2 ∷ 0 ∷ []) $ fjoin ! $ nothing ! $ move ! (2 ∷ 0 ∷ []) $ join ! $
-        use0 W (raw (fact 𝓤 (fr + i .0 * plainSize ver + 16 ≤ length bs))) (factI 𝓤 (fr + i .0 * plainSize ver + 16 ≤ length bs) (emp 𝓤) (storable-fits (length ys) (length bs) ver fr cnt .1 (i .0) less)) $ move ! (1 ∷ 2 ∷ 0 ∷ []) $ join ! $ join ! $ done !
+        qed W (‵ (flft κ₂ q₂) ∷ ‵ Src ∷ []) ∵ nothing ! $ owned ! usize (Is usize) (uint-makes 𝓤 H A W w64) (i .0) _ (refl, i-fits) $ fjoin ! $
+        owned ! usize (Is usize) (uint-makes 𝓤 H A W w64) fr _ (refl, fr-fits) $ fjoin ! $ owned ! u8 (Is u8) (uint-makes 𝓤 H A W w8) ver _ (refl, ver-fits) $ fjoin ! $
+        move ! (2 ∷ 0 ∷ []) $ fjoin ! $ nothing ! $ move ! (2 ∷ 0 ∷ []) $ join ! $
+        use0 W (raw (fact 𝓤 (fr + i .0 * plainSize ver + 16 ≤ length bs))) (factI 𝓤 (fr + i .0 * plainSize ver + 16 ≤ length bs) (emp 𝓤) (storable-fits (length ys) (length bs) ver fr cnt .1 (i .0) less)) $
+        move ! (1 ∷ 2 ∷ 0 ∷ []) $ join ! $ join ! $ done !
 
   module _ (𝓣 : Tables 𝓤 H) (known : Triple 𝓤 (𝓣 .C #store-writes·storable) (Fits 𝓤 H A mem run)) (known-nth : Triple 𝓤 (𝓣 .C #store-writes·nth-write) (Nth 𝓤 H A mem run)) where
     abbrev C : Calls 𝓤 H
@@ -197,20 +206,46 @@ module _ {M : Type 1} (𝓤 : URA M) (H : Heap 𝓤) (A : Atoms 𝓤) (W : Given
 
     module _ (l₀ l₁ l₂ l₃ l₄ l₅ l₆ l₇ l₈ l₉ l₁₀ l₁₁ l₁₂ l₁₃ : ℕ) where
       abbrev En : Env 𝓤 H
-      En = (tyUnit, l₀) ∷ (slice, l₁) ∷ (bytes, l₂) ∷ (tyInt w8, l₃) ∷ (word, l₄) ∷ (tyInt w32, l₅) ∷ (word, l₆) ∷ (word, l₇) ∷ (T′.mir, l₈) ∷ (word, l₉) ∷ (word, l₁₀) ∷ (tyBool, l₁₁) ∷ (word, l₁₂) ∷ (tyPtr, l₁₃) ∷ []
+      En =
+          (tyUnit, l₀) ∷ (slice, l₁) ∷ (bytes, l₂) ∷ (tyInt w8, l₃) ∷ (word, l₄) ∷ (tyInt w32, l₅) ∷ (word, l₆) ∷ (word, l₇) ∷ (T′.mir, l₈)
+          ∷ (word, l₉) ∷ (word, l₁₀) ∷ (tyBool, l₁₁) ∷ (word, l₁₂) ∷ (tyPtr, l₁₃) ∷ []
 
       -- after i turns; with the test made; then with the write in its local
       abbrev At : Upto → List (Item 𝓤)
-      At i = ‵ (row T.the-row fullShare (ps (i .0)) b o) ∷ ‵ (fobor κ q (Held T.the-row (length ys) b o γ)) ∷ ‵ (fobs γ (codedHoleys T.the-row .code (heres T.the-row ys))) ∷ ‵ (fauth γ (codedHoleys T.the-row .code (heres T.the-row ys))) ∷ ‵ (flft κ₂ q₂) ∷ ‵ Src
-          ∷ ‵ (froom tyPtr l₁₃ 0) ∷ ‵ (fdies tyPtr l₁₃) ∷ ‵ (froom word l₁₂ 0) ∷ ‵ (fdies word l₁₂) ∷ ‵ (froom tyBool l₁₁ 0) ∷ ‵ (fdies tyBool l₁₁) ∷ ‵ (fat fullShare word l₁₀ 0 (vint w64 (length bs))) ∷ ‵ (fdies word l₁₀) ∷ ‵ (fat fullShare word l₉ 0 (vint w64 (length ys))) ∷ ‵ (fdies word l₉) ∷ ‵ (froom T′.mir l₈ 0) ∷ ‵ (fdies T′.mir l₈) ∷ ‵ (fat fullShare word l₇ 0 (vint w64 (i .0))) ∷ ‵ (fdies word l₇) ∷ ‵ (fat fullShare word l₆ 0 (vint w64 n)) ∷ ‵ (fdies word l₆) ∷ ‵ (fat fullShare (tyInt w32) l₅ 0 (vint w32 cnt)) ∷ ‵ (fdies (tyInt w32) l₅) ∷ ‵ (fat fullShare word l₄ 0 (vint w64 fr)) ∷ ‵ (fdies word l₄) ∷ ‵ (fat fullShare (tyInt w8) l₃ 0 (vint w8 ver)) ∷ ‵ (fdies (tyInt w8) l₃) ∷ ‵ (fat fullShare bytes l₂ 0 (s₂)) ∷ ‵ (fdies bytes l₂) ∷ ‵ (fat fullShare slice l₁ 0 (s)) ∷ ‵ (fdies slice l₁) ∷ ‵ (froom tyUnit l₀ 0) ∷ ‵ (fdies tyUnit l₀) ∷ []
+      At i =
+          ‵ (row T.the-row fullShare (ps (i .0)) b o) ∷ ‵ (fobor κ q (Held T.the-row (length ys) b o γ)) ∷ ‵ (fobs γ (codedHoleys T.the-row .code (heres T.the-row ys)))
+          ∷ ‵ (fauth γ (codedHoleys T.the-row .code (heres T.the-row ys))) ∷ ‵ (flft κ₂ q₂) ∷ ‵ Src
+          ∷ ‵ (froom tyPtr l₁₃ 0) ∷ ‵ (fdies tyPtr l₁₃) ∷ ‵ (froom word l₁₂ 0) ∷ ‵ (fdies word l₁₂) ∷ ‵ (froom tyBool l₁₁ 0) ∷ ‵ (fdies tyBool l₁₁)
+          ∷ ‵ (fat fullShare word l₁₀ 0 (vint w64 (length bs))) ∷ ‵ (fdies word l₁₀) ∷ ‵ (fat fullShare word l₉ 0 (vint w64 (length ys))) ∷ ‵ (fdies word l₉)
+          ∷ ‵ (froom T′.mir l₈ 0) ∷ ‵ (fdies T′.mir l₈) ∷ ‵ (fat fullShare word l₇ 0 (vint w64 (i .0))) ∷ ‵ (fdies word l₇)
+          ∷ ‵ (fat fullShare word l₆ 0 (vint w64 n)) ∷ ‵ (fdies word l₆) ∷ ‵ (fat fullShare (tyInt w32) l₅ 0 (vint w32 cnt)) ∷ ‵ (fdies (tyInt w32) l₅)
+          ∷ ‵ (fat fullShare word l₄ 0 (vint w64 fr)) ∷ ‵ (fdies word l₄) ∷ ‵ (fat fullShare (tyInt w8) l₃ 0 (vint w8 ver)) ∷ ‵ (fdies (tyInt w8) l₃)
+          ∷ ‵ (fat fullShare bytes l₂ 0 (s₂)) ∷ ‵ (fdies bytes l₂) ∷ ‵ (fat fullShare slice l₁ 0 (s)) ∷ ‵ (fdies slice l₁) ∷ ‵ (froom tyUnit l₀ 0)
+          ∷ ‵ (fdies tyUnit l₀) ∷ []
 
       abbrev Tested : Upto → List (Item 𝓤)
-      Tested i = ‵ (row T.the-row fullShare (ps (i .0)) b o) ∷ ‵ (fobor κ q (Held T.the-row (length ys) b o γ)) ∷ ‵ (fobs γ (codedHoleys T.the-row .code (heres T.the-row ys))) ∷ ‵ (fauth γ (codedHoleys T.the-row .code (heres T.the-row ys))) ∷ ‵ (flft κ₂ q₂) ∷ ‵ Src
-          ∷ ‵ (froom tyPtr l₁₃ 0) ∷ ‵ (fdies tyPtr l₁₃) ∷ ‵ (froom word l₁₂ 0) ∷ ‵ (fdies word l₁₂) ∷ ‵ (fat fullShare tyBool l₁₁ 0 (vbool (ltb (i .0) n))) ∷ ‵ (fdies tyBool l₁₁) ∷ ‵ (fat fullShare word l₁₀ 0 (vint w64 (length bs))) ∷ ‵ (fdies word l₁₀) ∷ ‵ (fat fullShare word l₉ 0 (vint w64 (length ys))) ∷ ‵ (fdies word l₉) ∷ ‵ (froom T′.mir l₈ 0) ∷ ‵ (fdies T′.mir l₈) ∷ ‵ (fat fullShare word l₇ 0 (vint w64 (i .0))) ∷ ‵ (fdies word l₇) ∷ ‵ (fat fullShare word l₆ 0 (vint w64 n)) ∷ ‵ (fdies word l₆) ∷ ‵ (fat fullShare (tyInt w32) l₅ 0 (vint w32 cnt)) ∷ ‵ (fdies (tyInt w32) l₅) ∷ ‵ (fat fullShare word l₄ 0 (vint w64 fr)) ∷ ‵ (fdies word l₄) ∷ ‵ (fat fullShare (tyInt w8) l₃ 0 (vint w8 ver)) ∷ ‵ (fdies (tyInt w8) l₃) ∷ ‵ (fat fullShare bytes l₂ 0 (s₂)) ∷ ‵ (fdies bytes l₂) ∷ ‵ (fat fullShare slice l₁ 0 (s)) ∷ ‵ (fdies slice l₁) ∷ ‵ (froom tyUnit l₀ 0) ∷ ‵ (fdies tyUnit l₀) ∷ []
+      Tested i =
+          ‵ (row T.the-row fullShare (ps (i .0)) b o) ∷ ‵ (fobor κ q (Held T.the-row (length ys) b o γ)) ∷ ‵ (fobs γ (codedHoleys T.the-row .code (heres T.the-row ys)))
+          ∷ ‵ (fauth γ (codedHoleys T.the-row .code (heres T.the-row ys))) ∷ ‵ (flft κ₂ q₂) ∷ ‵ Src
+          ∷ ‵ (froom tyPtr l₁₃ 0) ∷ ‵ (fdies tyPtr l₁₃) ∷ ‵ (froom word l₁₂ 0) ∷ ‵ (fdies word l₁₂) ∷ ‵ (fat fullShare tyBool l₁₁ 0 (vbool (ltb (i .0) n)))
+          ∷ ‵ (fdies tyBool l₁₁) ∷ ‵ (fat fullShare word l₁₀ 0 (vint w64 (length bs))) ∷ ‵ (fdies word l₁₀) ∷ ‵ (fat fullShare word l₉ 0 (vint w64 (length ys)))
+          ∷ ‵ (fdies word l₉) ∷ ‵ (froom T′.mir l₈ 0) ∷ ‵ (fdies T′.mir l₈) ∷ ‵ (fat fullShare word l₇ 0 (vint w64 (i .0))) ∷ ‵ (fdies word l₇)
+          ∷ ‵ (fat fullShare word l₆ 0 (vint w64 n)) ∷ ‵ (fdies word l₆) ∷ ‵ (fat fullShare (tyInt w32) l₅ 0 (vint w32 cnt)) ∷ ‵ (fdies (tyInt w32) l₅)
+          ∷ ‵ (fat fullShare word l₄ 0 (vint w64 fr)) ∷ ‵ (fdies word l₄) ∷ ‵ (fat fullShare (tyInt w8) l₃ 0 (vint w8 ver)) ∷ ‵ (fdies (tyInt w8) l₃)
+          ∷ ‵ (fat fullShare bytes l₂ 0 (s₂)) ∷ ‵ (fdies bytes l₂) ∷ ‵ (fat fullShare slice l₁ 0 (s)) ∷ ‵ (fdies slice l₁) ∷ ‵ (froom tyUnit l₀ 0)
+          ∷ ‵ (fdies tyUnit l₀) ∷ []
 
       abbrev Got : Upto → WriteRecord → List (Item 𝓤)
-      Got i r = ‵ (row T.the-row fullShare (ps (i .0)) b o) ∷ ‵ (fobor κ q (Held T.the-row (length ys) b o γ)) ∷ ‵ (fobs γ (codedHoleys T.the-row .code (heres T.the-row ys))) ∷ ‵ (fauth γ (codedHoleys T.the-row .code (heres T.the-row ys))) ∷ ‵ (flft κ₂ q₂) ∷ ‵ Src
-          ∷ ‵ (froom tyPtr l₁₃ 0) ∷ ‵ (fdies tyPtr l₁₃) ∷ ‵ (froom word l₁₂ 0) ∷ ‵ (fdies word l₁₂) ∷ ‵ (fat fullShare tyBool l₁₁ 0 (vbool (ltb (i .0) n))) ∷ ‵ (fdies tyBool l₁₁) ∷ ‵ (fat fullShare word l₁₀ 0 (vint w64 (length bs))) ∷ ‵ (fdies word l₁₀) ∷ ‵ (fat fullShare word l₉ 0 (vint w64 (length ys))) ∷ ‵ (fdies word l₉) ∷ ‵ (fat fullShare T′.mir l₈ 0 (LL.val T.the-type T′.the-laws r)) ∷ ‵ (fdies T′.mir l₈) ∷ ‵ (fat fullShare word l₇ 0 (vint w64 (i .0))) ∷ ‵ (fdies word l₇) ∷ ‵ (fat fullShare word l₆ 0 (vint w64 n)) ∷ ‵ (fdies word l₆) ∷ ‵ (fat fullShare (tyInt w32) l₅ 0 (vint w32 cnt)) ∷ ‵ (fdies (tyInt w32) l₅) ∷ ‵ (fat fullShare word l₄ 0 (vint w64 fr)) ∷ ‵ (fdies word l₄) ∷ ‵ (fat fullShare (tyInt w8) l₃ 0 (vint w8 ver)) ∷ ‵ (fdies (tyInt w8) l₃) ∷ ‵ (fat fullShare bytes l₂ 0 (s₂)) ∷ ‵ (fdies bytes l₂) ∷ ‵ (fat fullShare slice l₁ 0 (s)) ∷ ‵ (fdies slice l₁) ∷ ‵ (froom tyUnit l₀ 0) ∷ ‵ (fdies tyUnit l₀) ∷ []
+      Got i r =
+          ‵ (row T.the-row fullShare (ps (i .0)) b o) ∷ ‵ (fobor κ q (Held T.the-row (length ys) b o γ)) ∷ ‵ (fobs γ (codedHoleys T.the-row .code (heres T.the-row ys)))
+          ∷ ‵ (fauth γ (codedHoleys T.the-row .code (heres T.the-row ys))) ∷ ‵ (flft κ₂ q₂) ∷ ‵ Src
+          ∷ ‵ (froom tyPtr l₁₃ 0) ∷ ‵ (fdies tyPtr l₁₃) ∷ ‵ (froom word l₁₂ 0) ∷ ‵ (fdies word l₁₂) ∷ ‵ (fat fullShare tyBool l₁₁ 0 (vbool (ltb (i .0) n)))
+          ∷ ‵ (fdies tyBool l₁₁) ∷ ‵ (fat fullShare word l₁₀ 0 (vint w64 (length bs))) ∷ ‵ (fdies word l₁₀) ∷ ‵ (fat fullShare word l₉ 0 (vint w64 (length ys)))
+          ∷ ‵ (fdies word l₉) ∷ ‵ (fat fullShare T′.mir l₈ 0 (LL.val T.the-type T′.the-laws r)) ∷ ‵ (fdies T′.mir l₈) ∷ ‵ (fat fullShare word l₇ 0 (vint w64 (i .0)))
+          ∷ ‵ (fdies word l₇) ∷ ‵ (fat fullShare word l₆ 0 (vint w64 n)) ∷ ‵ (fdies word l₆) ∷ ‵ (fat fullShare (tyInt w32) l₅ 0 (vint w32 cnt))
+          ∷ ‵ (fdies (tyInt w32) l₅) ∷ ‵ (fat fullShare word l₄ 0 (vint w64 fr)) ∷ ‵ (fdies word l₄) ∷ ‵ (fat fullShare (tyInt w8) l₃ 0 (vint w8 ver))
+          ∷ ‵ (fdies (tyInt w8) l₃) ∷ ‵ (fat fullShare bytes l₂ 0 (s₂)) ∷ ‵ (fdies bytes l₂) ∷ ‵ (fat fullShare slice l₁ 0 (s)) ∷ ‵ (fdies slice l₁)
+          ∷ ‵ (froom tyUnit l₀ 0) ∷ ‵ (fdies tyUnit l₀) ∷ []
 
       abbrev Turned : Upto → Out → SProp 𝓤
       Turned i = afterTurn 𝓤 H (Below 𝓤 H A Nearer At i) (afterBlock 𝓤 H (afterSeq 𝓤 H (Wp 𝓤 H C Λ En code.Mir.t-6 (atReturn 𝓤 H En Post)) (atReturn 𝓤 H En Post)))
@@ -238,12 +273,18 @@ module _ {M : Type 1} (𝓤 : URA M) (H : Heap 𝓤) (A : Atoms 𝓤) (W : Given
         takes =
             move ! (5 ∷ []) $ use1 W (‵ Src ⊛ ‵ Src) (shr-slice-copy 𝓤 H A W (named 1) κ₂ u8 .twice x₂ (s₂ ∷ [])) $ split ! $ move ! (6 ∷ 0 ∷ []) $
             use2 W (raw (Nth 𝓤 H A mem run .pre (to-nth i))) (asks-nth i less) $
-            calls-at ! fm (Nth 𝓤 H A mem run) known-nth (to-nth i) (and-then ! (load ! (from ! (stop !)) (look ! 28 refl)) (and-then ! (load ! (from ! (stop !)) (look ! 26 refl)) (and-then ! (load ! (from ! (stop !)) (look ! 24 refl)) (and-then ! (load ! (from ! (stop !)) (look ! 18 refl)) (no-more !))))) (λ v.
-            use1 W (later (some (λ (r : WriteRecord). ((‵ (flft κ₂ q₂) ⊛ ‵ ftrue) ⊛ ‵ (T.the-row .own r (v ∷ []))) ⊛ raw (ensured 𝓤 H A nw.ended (nw.clauses 𝓤 H A mem run) (κ₂, tt) (x₂, (ver, (fr, (i .0, tt)))) tt r)))) (id⊢ 𝓤 _) $ await ! tt $ pick ! (λ r.
-            split ! $ move ! (1 ∷ []) $ use1 W (raw (fact 𝓤 (r ≡ plainWrite ver bs (fr + i .0 * plainSize ver)))) (said-nth 𝓤 H A mem run κ₂ x₂ ver fr (i .0) r) $ heard ! (r ≡ plainWrite ver bs (fr + i .0 * plainSize ver)) (λ e. split ! $ move ! (1 ∷ []) $
+            calls-at ! fm (Nth 𝓤 H A mem run) known-nth (to-nth i)
+            (and-then ! (load ! (from ! (stop !)) (look ! 28 refl))
+            (and-then ! (load ! (from ! (stop !)) (look ! 26 refl)) (and-then ! (load ! (from ! (stop !)) (look ! 24 refl)) (and-then ! (load ! (from ! (stop !)) (look ! 18 refl)) (no-more !))))) (λ v.
+            use1 W (later (some (λ (r : WriteRecord). ((‵ (flft κ₂ q₂) ⊛ ‵ ftrue) ⊛ ‵ (T.the-row .own r (v ∷ [])))
+            ⊛ raw (ensured 𝓤 H A nw.ended (nw.clauses 𝓤 H A mem run) (κ₂, tt) (x₂, (ver, (fr, (i .0, tt)))) tt r)))) (id⊢ 𝓤 _) $ await ! tt $ pick ! (λ r.
+            split ! $ move ! (1 ∷ []) $ use1 W (raw (fact 𝓤 (r ≡ plainWrite ver bs (fr + i .0 * plainSize ver)))) (said-nth 𝓤 H A mem run κ₂ x₂ ver fr (i .0) r) $
+            heard ! (r ≡ plainWrite ver bs (fr + i .0 * plainSize ver)) (λ e. split ! $ move ! (1 ∷ []) $
             peeks ! T.the-row (Is T.the-row) (shows 𝓤 H A T.the-row) r (v ∷ []) (λ is. drop ! $
-            land ! (from ! (stop !)) (init ! 16 refl (LL.lawful T.the-type T′.the-laws 𝓤 H A W .typed r _ is .0)) $ rewrite ! 16 (λ (z : Val). ‵ (fat fullShare T′.mir l₈ 0 z)) (ap only (LL.tells T.the-type T′.the-laws r _ is)) refl $
-            split ! $ keep ! (3 ∷ 4 ∷ 5 ∷ 6 ∷ 0 ∷ 2 ∷ 7 ∷ 8 ∷ 9 ∷ 10 ∷ 11 ∷ 12 ∷ 13 ∷ 14 ∷ 15 ∷ 16 ∷ 17 ∷ 18 ∷ 19 ∷ 20 ∷ 21 ∷ 22 ∷ 23 ∷ 24 ∷ 25 ∷ 26 ∷ 27 ∷ 28 ∷ 29 ∷ 30 ∷ 31 ∷ 32 ∷ 33 ∷ 34 ∷ []) $ stores r e (subst (Is T.the-row r) (LL.tells T.the-type T′.the-laws r _ is) is)))))
+            land ! (from ! (stop !)) (init ! 16 refl (LL.lawful T.the-type T′.the-laws 𝓤 H A W .typed r _ is .0)) $
+            rewrite ! 16 (λ (z : Val). ‵ (fat fullShare T′.mir l₈ 0 z)) (ap only (LL.tells T.the-type T′.the-laws r _ is)) refl $
+            split ! $ keep ! (3 ∷ 4 ∷ 5 ∷ 6 ∷ 0 ∷ 2 ∷ 7 ∷ 8 ∷ 9 ∷ 10 ∷ 11 ∷ 12 ∷ 13 ∷ 14 ∷ 15 ∷ 16 ∷ 17 ∷ 18 ∷ 19 ∷ 20 ∷ 21 ∷ 22 ∷ 23 ∷ 24
+            ∷ 25 ∷ 26 ∷ 27 ∷ 28 ∷ 29 ∷ 30 ∷ 31 ∷ 32 ∷ 33 ∷ 34 ∷ []) $ stores r e (subst (Is T.the-row r) (LL.tells T.the-type T′.the-laws r _ is) is)))))
 
       -- the loop is left
       leaves : (i : Upto) → i .0 ≡ n → ent 𝓤 (⋆ 𝓤 H A (Tested i)) (Wp 𝓤 H C Λ En code.Mir.t-6 (atReturn 𝓤 H En Post))
@@ -253,8 +294,12 @@ module _ {M : Type 1} (𝓤 : URA M) (H : Heap 𝓤) (A : Atoms 𝓤) (W : Given
           closes-slice ! tt T.the-row ys zs zs-long b o $ move ! (3 ∷ []) $
           -- [the file's token; obs; the borrow; the token; what the file owns; the locals]
           assigns ! (of-opd ! (unit-lit !)) (from ! (stop !)) (init ! 31 refl (tt, tt)) $
-          returns ! (look ! 31 refl) $ forget ! 31 refl $ forget ! 29 refl $ forget ! 27 refl $ forget ! 25 refl $ forget ! 23 refl $ forget ! 21 refl $ forget ! 19 refl $ forget ! 17 refl $ forget ! 13 refl $ forget ! 11 refl $ forget ! 9 refl $
-          move ! (31 ∷ 32 ∷ []) $ free1 ! $ move ! (29 ∷ 30 ∷ []) $ free1 ! $ move ! (27 ∷ 28 ∷ []) $ free1 ! $ move ! (25 ∷ 26 ∷ []) $ free1 ! $ move ! (23 ∷ 24 ∷ []) $ free1 ! $ move ! (21 ∷ 22 ∷ []) $ free1 ! $ move ! (19 ∷ 20 ∷ []) $ free1 ! $ move ! (17 ∷ 18 ∷ []) $ free1 ! $ move ! (15 ∷ 16 ∷ []) $ free1 ! $ move ! (13 ∷ 14 ∷ []) $ free1 ! $ move ! (11 ∷ 12 ∷ []) $ free1 ! $ move ! (9 ∷ 10 ∷ []) $ free1 ! $ move ! (7 ∷ 8 ∷ []) $ free1 ! $ move ! (5 ∷ 6 ∷ []) $ free1 ! $ free0 ! $
+          returns ! (look ! 31 refl) $ forget ! 31 refl $ forget ! 29 refl $ forget ! 27 refl $ forget ! 25 refl $ forget ! 23 refl $ forget ! 21 refl $ forget ! 19 refl $ forget ! 17 refl $
+          forget ! 13 refl $ forget ! 11 refl $ forget ! 9 refl $
+          move ! (31 ∷ 32 ∷ []) $ free1 ! $ move ! (29 ∷ 30 ∷ []) $ free1 ! $ move ! (27 ∷ 28 ∷ []) $ free1 ! $ move ! (25 ∷ 26 ∷ []) $ free1 ! $ move ! (23 ∷ 24 ∷ []) $
+          free1 ! $ move ! (21 ∷ 22 ∷ []) $ free1 ! $ move ! (19 ∷ 20 ∷ []) $ free1 ! $ move ! (17 ∷ 18 ∷ []) $ free1 ! $ move ! (15 ∷ 16 ∷ []) $ free1 ! $
+          move ! (13 ∷ 14 ∷ []) $ free1 ! $ move ! (11 ∷ 12 ∷ []) $ free1 ! $ move ! (9 ∷ 10 ∷ []) $ free1 ! $ move ! (7 ∷ 8 ∷ []) $ free1 ! $ move ! (5 ∷ 6 ∷ []) $
+          free1 ! $ free0 ! $
           by ! exits
 
       turns : (i : Upto) → Sq W (At i) (runs C Λ En code.Mir.turn-1 (anyQ (Turned i)))
@@ -268,7 +313,12 @@ module _ {M : Type 1} (𝓤 : URA M) (H : Heap 𝓤) (A : Atoms 𝓤) (W : Given
       -- once the callee has said how many writes are stored: the run's borrow is opened, and the loop runs
       abbrev Counted : List (Item 𝓤)
       Counted = ‵ (flft κ q) ∷ ‵ (flft κ₂ q₂) ∷ ‵ Run ∷ ‵ Src
-          ∷ ‵ (froom tyPtr l₁₃ 0) ∷ ‵ (fdies tyPtr l₁₃) ∷ ‵ (froom word l₁₂ 0) ∷ ‵ (fdies word l₁₂) ∷ ‵ (froom tyBool l₁₁ 0) ∷ ‵ (fdies tyBool l₁₁) ∷ ‵ (fat fullShare word l₁₀ 0 (vint w64 (length bs))) ∷ ‵ (fdies word l₁₀) ∷ ‵ (fat fullShare word l₉ 0 (vint w64 (length ys))) ∷ ‵ (fdies word l₉) ∷ ‵ (froom T′.mir l₈ 0) ∷ ‵ (fdies T′.mir l₈) ∷ ‵ (froom word l₇ 0) ∷ ‵ (fdies word l₇) ∷ ‵ (fat fullShare word l₆ 0 (vint w64 n)) ∷ ‵ (fdies word l₆) ∷ ‵ (fat fullShare (tyInt w32) l₅ 0 (vint w32 cnt)) ∷ ‵ (fdies (tyInt w32) l₅) ∷ ‵ (fat fullShare word l₄ 0 (vint w64 fr)) ∷ ‵ (fdies word l₄) ∷ ‵ (fat fullShare (tyInt w8) l₃ 0 (vint w8 ver)) ∷ ‵ (fdies (tyInt w8) l₃) ∷ ‵ (fat fullShare bytes l₂ 0 (s₂)) ∷ ‵ (fdies bytes l₂) ∷ ‵ (fat fullShare slice l₁ 0 (s)) ∷ ‵ (fdies slice l₁) ∷ ‵ (froom tyUnit l₀ 0) ∷ ‵ (fdies tyUnit l₀) ∷ []
+          ∷ ‵ (froom tyPtr l₁₃ 0) ∷ ‵ (fdies tyPtr l₁₃) ∷ ‵ (froom word l₁₂ 0) ∷ ‵ (fdies word l₁₂) ∷ ‵ (froom tyBool l₁₁ 0) ∷ ‵ (fdies tyBool l₁₁)
+          ∷ ‵ (fat fullShare word l₁₀ 0 (vint w64 (length bs))) ∷ ‵ (fdies word l₁₀) ∷ ‵ (fat fullShare word l₉ 0 (vint w64 (length ys))) ∷ ‵ (fdies word l₉)
+          ∷ ‵ (froom T′.mir l₈ 0) ∷ ‵ (fdies T′.mir l₈) ∷ ‵ (froom word l₇ 0) ∷ ‵ (fdies word l₇) ∷ ‵ (fat fullShare word l₆ 0 (vint w64 n))
+          ∷ ‵ (fdies word l₆) ∷ ‵ (fat fullShare (tyInt w32) l₅ 0 (vint w32 cnt)) ∷ ‵ (fdies (tyInt w32) l₅) ∷ ‵ (fat fullShare word l₄ 0 (vint w64 fr))
+          ∷ ‵ (fdies word l₄) ∷ ‵ (fat fullShare (tyInt w8) l₃ 0 (vint w8 ver)) ∷ ‵ (fdies (tyInt w8) l₃) ∷ ‵ (fat fullShare bytes l₂ 0 (s₂)) ∷ ‵ (fdies bytes l₂)
+          ∷ ‵ (fat fullShare slice l₁ 0 (s)) ∷ ‵ (fdies slice l₁) ∷ ‵ (froom tyUnit l₀ 0) ∷ ‵ (fdies tyUnit l₀) ∷ []
 
       begins : Sq W Counted (runs C Λ En code.Mir.t-4 (atRet En Post))
       begins =
@@ -279,15 +329,24 @@ module _ {M : Type 1} (𝓤 : URA M) (H : Heap 𝓤) (A : Atoms 𝓤) (W : Given
       -- [the token; the file's token; run; file; the locals]
       abbrev Entered : List (Item 𝓤)
       Entered = ‵ (flft κ q) ∷ ‵ (flft κ₂ q₂) ∷ ‵ Run ∷ ‵ Src
-          ∷ ‵ (froom tyPtr l₁₃ 0) ∷ ‵ (fdies tyPtr l₁₃) ∷ ‵ (froom word l₁₂ 0) ∷ ‵ (fdies word l₁₂) ∷ ‵ (froom tyBool l₁₁ 0) ∷ ‵ (fdies tyBool l₁₁) ∷ ‵ (froom word l₁₀ 0) ∷ ‵ (fdies word l₁₀) ∷ ‵ (froom word l₉ 0) ∷ ‵ (fdies word l₉) ∷ ‵ (froom T′.mir l₈ 0) ∷ ‵ (fdies T′.mir l₈) ∷ ‵ (froom word l₇ 0) ∷ ‵ (fdies word l₇) ∷ ‵ (froom word l₆ 0) ∷ ‵ (fdies word l₆) ∷ ‵ (fat fullShare (tyInt w32) l₅ 0 (vint w32 cnt)) ∷ ‵ (fdies (tyInt w32) l₅) ∷ ‵ (fat fullShare word l₄ 0 (vint w64 fr)) ∷ ‵ (fdies word l₄) ∷ ‵ (fat fullShare (tyInt w8) l₃ 0 (vint w8 ver)) ∷ ‵ (fdies (tyInt w8) l₃) ∷ ‵ (fat fullShare bytes l₂ 0 (s₂)) ∷ ‵ (fdies bytes l₂) ∷ ‵ (fat fullShare slice l₁ 0 (s)) ∷ ‵ (fdies slice l₁) ∷ ‵ (froom tyUnit l₀ 0) ∷ ‵ (fdies tyUnit l₀) ∷ []
+          ∷ ‵ (froom tyPtr l₁₃ 0) ∷ ‵ (fdies tyPtr l₁₃) ∷ ‵ (froom word l₁₂ 0) ∷ ‵ (fdies word l₁₂) ∷ ‵ (froom tyBool l₁₁ 0) ∷ ‵ (fdies tyBool l₁₁)
+          ∷ ‵ (froom word l₁₀ 0) ∷ ‵ (fdies word l₁₀) ∷ ‵ (froom word l₉ 0) ∷ ‵ (fdies word l₉) ∷ ‵ (froom T′.mir l₈ 0) ∷ ‵ (fdies T′.mir l₈)
+          ∷ ‵ (froom word l₇ 0) ∷ ‵ (fdies word l₇) ∷ ‵ (froom word l₆ 0) ∷ ‵ (fdies word l₆) ∷ ‵ (fat fullShare (tyInt w32) l₅ 0 (vint w32 cnt))
+          ∷ ‵ (fdies (tyInt w32) l₅) ∷ ‵ (fat fullShare word l₄ 0 (vint w64 fr)) ∷ ‵ (fdies word l₄) ∷ ‵ (fat fullShare (tyInt w8) l₃ 0 (vint w8 ver))
+          ∷ ‵ (fdies (tyInt w8) l₃) ∷ ‵ (fat fullShare bytes l₂ 0 (s₂)) ∷ ‵ (fdies bytes l₂) ∷ ‵ (fat fullShare slice l₁ 0 (s)) ∷ ‵ (fdies slice l₁)
+          ∷ ‵ (froom tyUnit l₀ 0) ∷ ‵ (fdies tyUnit l₀) ∷ []
 
       body : Sq W Entered (runs C Λ En code.Mir.t-1 (atRet En Post))
       body =
           assigns ! (of-opd ! (load ! (from ! (fld ! refl (stop !))) (look-in ! 28 (sub ! 1 refl (whole !))))) (from ! (stop !)) (init ! 12 refl (tt, record { fits = room .0 })) $
           assigns ! (of-opd ! (load ! (from ! (fld ! refl (stop !))) (look-in ! 26 (sub ! 1 refl (whole !))))) (from ! (stop !)) (init ! 10 refl (tt, record { fits = room₂ .0 })) $
           use0 W (raw (Fits 𝓤 H A mem run .pre to)) asks $
-          calls-at ! fm (Fits 𝓤 H A mem run) known to (and-then ! (load ! (from ! (stop !)) (look ! 13 refl)) (and-then ! (load ! (from ! (stop !)) (look ! 11 refl)) (and-then ! (load ! (from ! (stop !)) (look ! 25 refl)) (and-then ! (load ! (from ! (stop !)) (look ! 23 refl)) (and-then ! (load ! (from ! (stop !)) (look ! 21 refl)) (no-more !)))))) (λ v.
-          use1 W (later (some (λ (r : ℕ). (‵ ftrue ⊛ ‵ (usize .own r (v ∷ []))) ⊛ raw (ensured 𝓤 H A st.ended (st.clauses 𝓤 H A mem run) tt (length ys, (length bs, (ver, (fr, (cnt, tt))))) tt r)))) (id⊢ 𝓤 _) $ await ! tt $ pick ! (λ r.
+          calls-at ! fm (Fits 𝓤 H A mem run) known to
+          (and-then ! (load ! (from ! (stop !)) (look ! 13 refl))
+          (and-then ! (load ! (from ! (stop !)) (look ! 11 refl))
+          (and-then ! (load ! (from ! (stop !)) (look ! 25 refl)) (and-then ! (load ! (from ! (stop !)) (look ! 23 refl)) (and-then ! (load ! (from ! (stop !)) (look ! 21 refl)) (no-more !)))))) (λ v.
+          use1 W (later (some (λ (r : ℕ). (‵ ftrue ⊛ ‵ (usize .own r (v ∷ [])))
+          ⊛ raw (ensured 𝓤 H A st.ended (st.clauses 𝓤 H A mem run) tt (length ys, (length bs, (ver, (fr, (cnt, tt))))) tt r)))) (id⊢ 𝓤 _) $ await ! tt $ pick ! (λ r.
           split ! $ move ! (1 ∷ []) $ use1 W (raw (fact 𝓤 (r ≡ n))) (said 𝓤 H A mem run (length ys) (length bs) ver fr cnt r) $ heard ! (r ≡ n) (λ e. split ! $ drop ! $
           peeks ! usize (Is usize) (shows 𝓤 H A usize) r (v ∷ []) (λ is. drop ! $
           land ! (from ! (stop !)) (init ! 18 refl (uint-lawful 𝓤 H A W w64 .typed r _ is .0)) $ rewrite ! 18 (λ (z : Val). ‵ (fat fullShare word l₆ 0 z)) (ap only (is .0) ∙ ap (λ (c : ℕ). vint w64 c) e) refl $
@@ -295,30 +354,46 @@ module _ {M : Type 1} (𝓤 : URA M) (H : Heap 𝓤) (A : Atoms 𝓤) (W : Given
 
     walk : ent 𝓤 (onEntry 𝓤 H A f.signature (κ, (κ₂, tt)) (q, (q₂, tt)) args vals) (WpFn 𝓤 H C Λ code.function (s ∷ s₂ ∷ vint w8 ver ∷ vint w64 fr ∷ vint w32 cnt ∷ []) Post)
     walk =
-        qed W ((‵ (flft κ q) ⊛ ‵ (flft κ₂ q₂) ⊛ ‵ ftrue) ∷ ‵ (owns (MutSlice (named 0) κ T.the-row ∷ ShrSlice (named 1) κ₂ u8 ∷ u8 ∷ usize ∷ u32 ∷ []) args vals) ∷ []) ∵ enter ! C Λ code.function (s ∷ s₂ ∷ vint w8 ver ∷ vint w64 fr ∷ vint w32 cnt ∷ []) _ $
-        alloc1 ! (λ l₀. alloc1 ! (λ l₁. alloc1 ! (λ l₂. alloc1 ! (λ l₃. alloc1 ! (λ l₄. alloc1 ! (λ l₅. alloc1 ! (λ l₆. alloc1 ! (λ l₇. alloc1 ! (λ l₈. alloc1 ! (λ l₉. alloc1 ! (λ l₁₀. alloc1 ! (λ l₁₁. alloc1 ! (λ l₁₂. alloc1 ! (λ l₁₃. alloc0 ! $ params1 ! $
+        qed W
+        ((‵ (flft κ q) ⊛ ‵ (flft κ₂ q₂) ⊛ ‵ ftrue) ∷ ‵ (owns (MutSlice (named 0) κ T.the-row ∷ ShrSlice (named 1) κ₂ u8 ∷ u8 ∷ usize ∷ u32 ∷ []) args vals) ∷ [])
+        ∵ enter ! C Λ code.function (s ∷ s₂ ∷ vint w8 ver ∷ vint w64 fr ∷ vint w32 cnt ∷ []) _ $
+        alloc1 ! (λ l₀. alloc1 ! (λ l₁. alloc1 ! (λ l₂.
+        alloc1 ! (λ l₃. alloc1 ! (λ l₄. alloc1 ! (λ l₅.
+        alloc1 ! (λ l₆. alloc1 ! (λ l₇. alloc1 ! (λ l₈. alloc1 ! (λ l₉. alloc1 ! (λ l₁₀. alloc1 ! (λ l₁₁. alloc1 ! (λ l₁₂. alloc1 ! (λ l₁₃. alloc0 ! $ params1 ! $
         pass1 ! (init ! 24 refl (tt, (tt, (record { fits = room .0 }, tt)))) $ pass1 ! (init ! 22 refl (tt, (tt, (record { fits = room₂ .0 }, tt)))) $
         pass1 ! (init ! 20 refl (tt, record { fits = ver-fits })) $ pass1 ! (init ! 18 refl (tt, record { fits = fr-fits })) $ pass1 ! (init ! 16 refl (tt, record { fits = cnt-fits })) $ pass0 ! $
         move ! (29 ∷ []) $ fsplit ! $ move ! (1 ∷ []) $ fsplit ! $ move ! (1 ∷ []) $ drop ! $ move ! (30 ∷ []) $ split ! $ move ! (1 ∷ []) $ split ! $ move ! (1 ∷ []) $ drop ! $ move ! (1 ∷ 0 ∷ 3 ∷ 2 ∷ []) $
         body l₀ l₁ l₂ l₃ l₄ l₅ l₆ l₇ l₈ l₉ l₁₀ l₁₁ l₁₂ l₁₃))))))))))))))
 
 module _ {M : Type 1} (𝓤 : URA M) (H : Heap 𝓤) (A : Atoms 𝓤) (W : Given 𝓤 H A) (mem : Memory → SProp 𝓤) (run : Routine → Fun 𝓤) where
-  store-writes-walks : (𝓣 : Tables 𝓤 H) → Triple 𝓤 (𝓣 .C #store-writes·storable) (Fits 𝓤 H A mem run) → Triple 𝓤 (𝓣 .C #store-writes·nth-write) (Nth 𝓤 H A mem run) → Walks 𝓤 H A f.ended stayed (WpFn 𝓤 H (𝓣 .C) (𝓣 .Λ) code.function) (f.clauses 𝓤 H A mem run)
+  store-writes-walks : (𝓣 : Tables 𝓤 H) → Triple 𝓤 (𝓣 .C #store-writes·storable) (Fits 𝓤 H A mem run)
+      → Triple 𝓤 (𝓣 .C #store-writes·nth-write) (Nth 𝓤 H A mem run)
+      → Walks 𝓤 H A f.ended stayed (WpFn 𝓤 H (𝓣 .C) (𝓣 .Λ) code.function) (f.clauses 𝓤 H A mem run)
   store-writes-walks 𝓣 known known-nth = walked 𝓤 H A f.ended stayed (f.clauses 𝓤 H A mem run) (WpFn 𝓤 H (𝓣 .C) (𝓣 .Λ) code.function)
-      (λ κs. (slice-vals, (slice-vals, (uint-vals w8, (uint-vals w64, (uint-vals w32, tt)))))) (λ κs. (mut-slice-tells (named 0) (κs .0) T.the-row, (shr-slice-tells (named 1) (κs .1 .0) u8, (uint-tells w8, (uint-tells w64, (uint-tells w32, tt))))))
-      (λ κs qs bounds a _ are. via 𝓤 _ (fst∗ 𝓤 _ (emp 𝓤)) (walk 𝓤 H A W mem run (κs .0) (κs .1 .0) (qs .0) (qs .1 .0) (a .0 .ptr .0) (a .0 .ptr .1) (a .1 .0 .ptr .0) (a .1 .0 .ptr .1) (a .0 .name) (a .1 .0 .name) (a .0 .now) (a .1 .0 .now) (a .1 .1 .0) (a .1 .1 .1 .0) (a .1 .1 .1 .1 .0)
+      (λ κs. (slice-vals, (slice-vals, (uint-vals w8, (uint-vals w64, (uint-vals w32, tt))))))
+      (λ κs. (mut-slice-tells (named 0) (κs .0) T.the-row, (shr-slice-tells (named 1) (κs .1 .0) u8, (uint-tells w8, (uint-tells w64, (uint-tells w32, tt))))))
+      (λ κs qs bounds a _ are. via 𝓤 _ (fst∗ 𝓤 _ (emp 𝓤))
+      (walk 𝓤 H A W mem run (κs .0) (κs .1 .0) (qs .0) (qs .1 .0) (a .0 .ptr .0) (a .0 .ptr .1) (a .1 .0 .ptr .0) (a .1 .0 .ptr .1) (a .0 .name) (a .1 .0 .name) (a .0 .now)
+      (a .1 .0 .now) (a .1 .1 .0) (a .1 .1 .1 .0) (a .1 .1 .1 .1 .0)
       (are .1 .1 .0 .1) (are .1 .1 .1 .0 .1) (are .1 .1 .1 .1 .0 .1) (are .0 .0 .1) (are .1 .0 .0 .1) 𝓣 known known-nth))
 
-store-writes-meets : {M : Type 1} (𝓤 : URA M) (H : Heap 𝓤) (A : Atoms 𝓤) → Given 𝓤 H A → (mem : Memory → SProp 𝓤) (run : Routine → Fun 𝓤) (𝓣 : Tables 𝓤 H) → Triple 𝓤 (𝓣 .C #store-writes·storable) (Fits 𝓤 H A mem run) → Triple 𝓤 (𝓣 .C #store-writes·nth-write) (Nth 𝓤 H A mem run)
+store-writes-meets : {M : Type 1} (𝓤 : URA M) (H : Heap 𝓤) (A : Atoms 𝓤) → Given 𝓤 H A → (mem : Memory → SProp 𝓤) (run : Routine → Fun 𝓤) (𝓣 : Tables 𝓤 H)
+    → Triple 𝓤 (𝓣 .C #store-writes·storable) (Fits 𝓤 H A mem run) → Triple 𝓤 (𝓣 .C #store-writes·nth-write) (Nth 𝓤 H A mem run)
     → Meets 𝓤 H A f.signature (WpFn 𝓤 H (𝓣 .C) (𝓣 .Λ) code.function) (f.spec 𝓤 H A mem run)
 store-writes-meets 𝓤 H A W mem run 𝓣 known known-nth =
-    walk-meets 𝓤 H A f.ended stayed W (goes-slice 𝓤 H A W 2 0 tt (plain (λ _. T.the-row)), (goes-none-slice 𝓤 H A W 2 (1 ∷ []) tt (plain (λ _. u8)) yes, (goes-none 𝓤 H A W 2 (λ _. u8) yes (λ κs x f. refl), (goes-none 𝓤 H A W 2 (λ _. usize) yes (λ κs x f. refl), (goes-none 𝓤 H A W 2 (λ _. u32) yes (λ κs x f. refl), tt))))) (f.clauses 𝓤 H A mem run)
+    walk-meets 𝓤 H A f.ended stayed W (
+      goes-slice 𝓤 H A W 2 0 tt (plain (λ _. T.the-row)),
+      (
+        goes-none-slice 𝓤 H A W 2 (1 ∷ []) tt (plain (λ _. u8)) yes,
+        (goes-none 𝓤 H A W 2 (λ _. u8) yes (λ κs x f. refl), (goes-none 𝓤 H A W 2 (λ _. usize) yes (λ κs x f. refl), (goes-none 𝓤 H A W 2 (λ _. u32) yes (λ κs x f. refl), tt))),
+      ),
+    )
+    (f.clauses 𝓤 H A mem run)
     (WpFn 𝓤 H (𝓣 .C) (𝓣 .Λ) code.function) (WpFn-mono 𝓤 H (W .laws) 𝓣 code.function) (store-writes-walks 𝓤 H A W mem run 𝓣 known known-nth)
 
 pub store-writes-spec : {M : Type 1} → stated.statement M
 unfolding code.routine tablesOf
-store-writes-spec 𝓤 H 𝓜 𝓖 𝓡 =
-    entered 𝓤 H (tripleOf 𝓤 H (𝓖 .A) f.signature (f.spec 𝓤 H (𝓖 .A) (𝓜 .mem) (𝓡 .run)))
+store-writes-spec 𝓤 H 𝓜 𝓖 𝓡 = entered 𝓤 H (tripleOf 𝓤 H (𝓖 .A) f.signature (f.spec 𝓤 H (𝓖 .A) (𝓜 .mem) (𝓡 .run)))
     (tables 𝓤 H 𝓜 𝓡 code.env .C) (tables 𝓤 H 𝓜 𝓡 code.env .Λ) #store-writes·store-writes code.function (code.unfolded 𝓤 H 𝓜 𝓡)
     (store-writes-meets 𝓤 H (𝓖 .A) (givenOf 𝓤 H 𝓜 𝓖) (𝓜 .mem) (𝓡 .run) (tablesOf 𝓤 H 𝓜 (tables 𝓤 H 𝓜 𝓡 code.env))
     (cited 𝓤 H (Fits 𝓤 H (𝓖 .A) (𝓜 .mem) (𝓡 .run)) 𝓜 𝓡 code.env #store-writes·storable st-def.routine code.calls-store-writes·storable (st-thm.met 𝓤 H 𝓜 𝓖 𝓡))

@@ -1,4 +1,4 @@
--- `stores::store_1` meets its contract. Assumes nothing.
+-- `stores::store_1` meets its contract: one byte put at its place is one element set (`put-first`).
 use borrow.Author.Needs.{needs}
 use native.Mathlib.Omega.{arith}
 use Rattle.stores.proofs.Laws.{put-first}
@@ -9,6 +9,4 @@ returns : tie.Need-returns
 returns c = put-first _ _ _ (omega arith)
 
 pub store-1-spec : {M : Type 1} → statement M
-store-1-spec =
-    tie.close
-    (tie.spec (search needs) (search needs) (search needs) returns)
+store-1-spec = tie.close (tie.spec (search needs) (search needs) (search needs) returns)

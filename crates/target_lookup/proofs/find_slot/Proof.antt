@@ -23,24 +23,12 @@ loop-holds c =
     let s = c .before in
     (omega arith, omega (arith, c .held .ensures), rw (c .held .ensures, held-cards (s .args .t1) (eight (s .args .t1) _ (s .good .0))))
 
-mul-card : tie.Need-mul-card Inv-loop μ-loop
-mul-card c = omega arith
-
-element-copy-out-card : tie.Need-element-copy-out-card Inv-loop μ-loop
-element-copy-out-card c = omega arith
-
 returns : tie.Need-returns Inv-loop μ-loop
 returns c =
     let l = c .before .before .before .before in
     let s = l .before .before in
     let t = s .args .t1 in
     rw (l .loop .inv .2, slot-step (t .cards) (l .before .held .result) (l .loop .i) (s .args .slot) (omega arith) (omega (arith, eight t _ (s .good .0))), eq-eqb _ _ (c .if1 .taken))
-
-add-i : tie.Need-add-i Inv-loop μ-loop
-add-i c = omega arith
-
-loop-less : tie.Need-loop-less Inv-loop μ-loop
-loop-less c = omega arith
 
 loop-again : tie.Need-loop-again Inv-loop μ-loop
 loop-again c =
@@ -57,6 +45,4 @@ returns-2 c =
     rw (l .loop .inv .2, whole, slot-end (t .cards) (l .before .held .result))
 
 pub find-slot-spec : {M : Type 1} → statement M
-find-slot-spec =
-    tie.close
-    (tie.spec Inv-loop μ-loop (search needs) loop-holds mul-card element-copy-out-card returns add-i loop-less loop-again returns-2)
+find-slot-spec = tie.close (tie.spec Inv-loop μ-loop (search needs) loop-holds (search needs) (search needs) returns (search needs) (search needs) loop-again returns-2)

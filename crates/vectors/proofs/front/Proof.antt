@@ -1,4 +1,4 @@
--- `vectors::front` meets its contract. Assumes nothing.
+-- `vectors::front` meets its contract: a front as long as the buffer is all of it.
 use borrow.Author.Needs.{needs}
 use native.Mathlib.Omega.{arith}
 use mathlib.Core.Path.{sym}

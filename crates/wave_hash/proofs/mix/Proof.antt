@@ -1,4 +1,4 @@
--- `wave_hash::mix` meets its contract. Assumes nothing.
+-- The number stays below 2 to the 32.
 use native.Mathlib.Nat.{mod-lt}
 use borrow.Author.Needs.{needs}
 use lib.Dec.{lit<}
@@ -13,4 +13,5 @@ returns c = (rw (c .before .before .before .wide .ensures .0, c .before .before 
 pub mix-spec : {M : Type 1} → statement M
 mix-spec =
     tie.close
-    (tie.spec (search needs) (search needs) (search needs) (search needs) (search needs) (search needs) (search needs) (search needs) (search needs) (search needs) (search needs) (search needs) returns)
+    (tie.spec (search needs) (search needs) (search needs) (search needs) (search needs) (search needs) (search needs) (search needs) (search needs) (search needs) (search needs)
+    (search needs) returns)

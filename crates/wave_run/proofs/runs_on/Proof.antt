@@ -1,4 +1,4 @@
--- `wave_run::runs_on` meets its contract: the records still to look at decide. Assumes nothing.
+-- The loop's invariant: the records still to look at decide.
 use Prim.Native.Nat.{_+_, _-_, _*_, _≤_}
 use mathlib.Core.Path.{_≡_, sym, _∙_}
 use native.Mathlib.Nat.{add-zero}
@@ -22,17 +22,17 @@ Inv-loop records target address left₀ place₀ head₀ left place head =
 abbrev μ-loop : tie.MeasureT-loop
 μ-loop records target address left₀ place₀ head₀ left place head = left
 
-loop-holds : tie.Need-loop-holds Inv-loop μ-loop
-loop-holds c = (omega arith, omega arith, omega arith, rw add-zero)
-
 returns : tie.Need-returns Inv-loop μ-loop
 returns c =
+    let t = c .before .before .before .before in
+    let s = t .before in
     let l = c .before .before .before .loop in
-    let a = c .before .before .before .before .before .args in
-    let bytes : AllBytes (a .records .now) = λ i. c .before .before .before .before .shared-slice-known .given i .fits in
+    let a = s .args in
+    let bytes : AllBytes (a .records .now) = λ i. t .shared-slice-known .given i .fits in
     let from = a .address + (256 - l .left) in
     let some = c .before .before .loop-test .taken in
-    rw (l .inv .3, runs-not (a .records .now) (l .left) (a .target) from (l .place) some (head-differs (a .records .now) (l .place) bytes (a .target) from (omega arith) (λ e. c .if1 .taken (c .before .read-u32 .ensures ∙ e ∙ omega arith))))
+    let differs = head-differs (a .records .now) (l .place) bytes (a .target) from (omega arith) (λ e. c .if1 .taken (c .before .read-u32 .ensures ∙ e ∙ omega arith)) in
+    rw (l .inv .3, runs-not (a .records .now) (l .left) (a .target) from (l .place) some differs)
 
 loop-again : tie.Need-loop-again Inv-loop μ-loop
 loop-again c =
@@ -45,13 +45,8 @@ loop-again c =
     let next : a .address + (256 - (l .left - 1)) ≡ from + 1 = omega arith in
     (omega arith, omega arith, omega arith, rw next (l .inv .3 ∙ runs-next (a .records .now) (l .left) (a .target) from (l .place) some (same .0) (same .1)))
 
-returns-2 : tie.Need-returns-2 Inv-loop μ-loop
-returns-2 c =
-    let l = c .before .loop in
-    let none : l .left ≡ 0 = omega arith in
-    rw (l .inv .3, none, runs-none)
-
 pub runs-on-spec : {M : Type 1} → statement M
 runs-on-spec =
     tie.close
-    (tie.spec Inv-loop μ-loop (search needs) (search needs) loop-holds (search needs) returns (search needs) (search needs) (search needs) (search needs) loop-again returns-2)
+    (tie.spec Inv-loop μ-loop (search needs) (search needs) (λ c. (omega arith, omega arith, omega arith, rw add-zero)) (search needs) returns (search needs) (search needs) (search needs)
+    (search needs) loop-again (λ c. let none : c .before .loop .left ≡ 0 = omega arith in rw (c .before .loop .inv .3, none, runs-none)))

@@ -1,4 +1,4 @@
--- `wave_table::add_wave` meets its contract. Assumes nothing.
+-- A wave that is known keeps its number, and any other is put at the head of its chain.
 use native.Mathlib.Omega.{arith}
 use borrow.Author.Needs.{needs}
 use Rattle.wave_hash.proofs.Hash.{bucket-below}
@@ -11,14 +11,21 @@ wave-number-requires c κs = (c .before .before .before .before .before .pre .0,
 
 returns : tie.Need-returns
 returns c =
-    let a = c .before .before .before .before .before .before .before .args in
-    added-known (a .file .now) (a .heads .now) (a .next .now) (a .places .now) (a .count) (a .at) (c .before .before .before .before .before .before .before .pre .0) _ (c .before .wave-number .ensures) (c .if1 .taken)
+    let s = c .before .before .before .before .before .before .before in
+    let a = s .args in
+    added-known (a .file .now) (a .heads .now) (a .next .now) (a .places .now) (a .count) (a .at) (s .pre .0) _ (c .before .wave-number .ensures) (c .if1 .taken)
 
 mul-next : tie.Need-mul-next
-mul-next c = omega (arith, c .before .before .before .before .before .bucket .ensures, bucket-below (c .before .before .before .before .before .before .before .args .file .now) (c .before .before .before .before .before .before .before .args .at))
+mul-next c =
+    let t = c .before .before .before .before .before in
+    let s = t .before .before in
+    omega (arith, t .bucket .ensures, bucket-below (s .args .file .now) (s .args .at))
 
 element-copy-out-next : tie.Need-element-copy-out-next
-element-copy-out-next c = omega (arith, c .before .before .before .before .before .bucket .ensures, bucket-below (c .before .before .before .before .before .before .before .args .file .now) (c .before .before .before .before .before .before .before .args .at))
+element-copy-out-next c =
+    let t = c .before .before .before .before .before in
+    let s = t .before .before in
+    omega (arith, t .bucket .ensures, bucket-below (s .args .file .now) (s .args .at))
 
 mul-next-2 : tie.Need-mul-next-2
 mul-next-2 c = omega arith
@@ -33,10 +40,16 @@ cast-heads : tie.Need-cast-heads
 cast-heads c = omega arith
 
 mul-heads : tie.Need-mul-heads
-mul-heads c = omega (arith, c .before .before .before .before .before .before .bucket .ensures, bucket-below (c .before .before .before .before .before .before .before .before .args .file .now) (c .before .before .before .before .before .before .before .before .args .at))
+mul-heads c =
+    let t = c .before .before .before .before .before .before in
+    let s = t .before .before in
+    omega (arith, t .bucket .ensures, bucket-below (s .args .file .now) (s .args .at))
 
 element-write-heads : tie.Need-element-write-heads
-element-write-heads c = omega (arith, c .before .before .before .before .before .before .bucket .ensures, bucket-below (c .before .before .before .before .before .before .before .before .args .file .now) (c .before .before .before .before .before .before .before .before .args .at))
+element-write-heads c =
+    let t = c .before .before .before .before .before .before in
+    let s = t .before .before in
+    omega (arith, t .bucket .ensures, bucket-below (s .args .file .now) (s .args .at))
 
 cast-places : tie.Need-cast-places
 cast-places c = omega arith
@@ -52,11 +65,14 @@ add-t17 c = omega arith
 
 returns-2 : tie.Need-returns-2
 returns-2 c =
-    let a = c .before .before .before .before .before .before .before .before .args in
-    let p = c .before .before .before .before .before .before .before .before .pre in
-    added-new (a .file .now) (a .heads .now) (a .next .now) (a .places .now) (a .count) (a .at) (p .0) _ _ (c .before .before .before .before .before .before .bucket .ensures) (c .before .before .wave-number .ensures) (c .before .if1 .left) (omega arith) (p .1)
+    let t = c .before .before .before .before .before .before in
+    let s = t .before .before in
+    let a = s .args in
+    let p = s .pre in
+    added-new (a .file .now) (a .heads .now) (a .next .now) (a .places .now) (a .count) (a .at) (p .0) _ _ (t .bucket .ensures) (c .before .before .wave-number .ensures) (c .before .if1 .left) (omega arith) (p .1)
 
 pub add-wave-spec : {M : Type 1} → statement M
 add-wave-spec =
     tie.close
-    (tie.spec (search needs) wave-number-requires returns mul-next element-copy-out-next mul-next-2 element-write-next add-heads cast-heads mul-heads element-write-heads cast-places mul-places element-write-places add-t17 returns-2)
+    (tie.spec (search needs) wave-number-requires returns mul-next element-copy-out-next mul-next-2 element-write-next add-heads cast-heads mul-heads element-write-heads cast-places
+    mul-places element-write-places add-t17 returns-2)

@@ -1,4 +1,4 @@
--- `wave_table::find_wave` meets its contract: what the rest of the chain finds decides. Assumes nothing.
+-- The loop's invariant: what the rest of the chain finds decides.
 use Prim.Native.Nat.{_-_, _≤_}
 use mathlib.Core.Path.{_≡_, refl, sym, _∙_}
 use native.Mathlib.Omega.{arith}
@@ -16,11 +16,17 @@ abbrev μ-loop : tie.MeasureT-loop
 μ-loop file at first next places i₀ i = i
 
 -- the next wave of the chain
-stepped : (c : tie.After-i Inv-loop μ-loop) → Stepped (c .before .before .before .before .before .before .before .args .file .now) (c .before .before .before .before .before .before .before .args .places .now) (c .before .before .before .before .before .before .before .args .at) (c .before .before .before .before .before .loop .i) (getD (c .before .before .before .before .before .before .before .args .next .now) (c .before .before .before .before .before .loop .i - 1) 0)
+stepped : (c : tie.After-i Inv-loop μ-loop)
+    → Stepped (c .before .before .before .before .before .before .before .args .file .now) (c .before .before .before .before .before .before .before .args .places .now)
+    (c .before .before .before .before .before .before .before .args .at) (c .before .before .before .before .before .loop .i)
+    (getD (c .before .before .before .before .before .before .before .args .next .now) (c .before .before .before .before .before .loop .i - 1) 0)
 stepped c =
-    let a = c .before .before .before .before .before .before .before .args in
-    let l = c .before .before .before .before .before .loop in
-    chain-step (a .file .now) (a .places .now) (a .next .now) (a .at) (a .first) (l .i) (c .before .before .before .before .before .before .before .pre .0) (c .before .before .before .before .loop-test .taken) (l .inv .0) (l .inv .1) (sym (c .before .before .same-wave .ensures) ∙ c .before .if1 .left)
+    let t = c .before .before .before .before in
+    let p = t .before in
+    let s = p .before .before in
+    let a = s .args in
+    let l = p .loop in
+    chain-step (a .file .now) (a .places .now) (a .next .now) (a .at) (a .first) (l .i) (s .pre .0) (t .loop-test .taken) (l .inv .0) (l .inv .1) (sym (c .before .before .same-wave .ensures) ∙ c .before .if1 .left)
 
 loop-holds : tie.Need-loop-holds Inv-loop μ-loop
 loop-holds c = (omega arith, c .before .pre .0 .last, refl)
@@ -70,19 +76,5 @@ returns-2 c =
 pub find-wave-spec : {M : Type 1} → statement M
 find-wave-spec =
     tie.close
-    (tie.spec
-    Inv-loop
-    μ-loop
-    loop-holds
-    sub-k
-    mul-same-wave
-    element-copy-out-same-wave
-    cast-same-wave
-    same-wave-requires
-    returns
-    mul-i
-    element-copy-out-i
-    cast-i
-    loop-less
-    loop-again
+    (tie.spec Inv-loop μ-loop loop-holds sub-k mul-same-wave element-copy-out-same-wave cast-same-wave same-wave-requires returns mul-i element-copy-out-i cast-i loop-less loop-again
     returns-2)

@@ -1,4 +1,4 @@
--- `wave_table::wave_number` meets its contract. Assumes nothing.
+-- The chain of the wave's bucket holds every known wave that could be the same.
 use mathlib.Core.Path.{sym, _∙_}
 use native.Mathlib.Omega.{arith}
 use Rattle.wave_hash.proofs.Hash.{bucket-below}
@@ -19,33 +19,32 @@ cast-first c =
 
 find-wave-requires : tie.Need-find-wave-requires
 find-wave-requires c κs =
-    let a = c .before .before .args in
-    let p = c .before .before .pre in
-    (chain-of (a .file .now) (a .heads .now) (a .next .now) (a .places .now) (a .count) (a .at) (p .0) (a .bucket) (p .1), p .2, omega (arith, p .0 .few, head-few (a .file .now) (a .heads .now) (a .next .now) (a .places .now) (a .count) (a .at) (p .0) (a .bucket) (p .1)))
+    let s = c .before .before in
+    let a = s .args in
+    let p = s .pre in (
+      chain-of (a .file .now) (a .heads .now) (a .next .now) (a .places .now) (a .count) (a .at) (p .0) (a .bucket) (p .1),
+      p .2,
+      omega (arith, p .0 .few, head-few (a .file .now) (a .heads .now) (a .next .now) (a .places .now) (a .count) (a .at) (p .0) (a .bucket) (p .1)),
+    )
 
 returns : tie.Need-returns
 returns c =
-    let a = c .before .before .before .before .args in
-    let p = c .before .before .before .before .pre in
-    place-missing (a .file .now) (a .heads .now) (a .next .now) (a .places .now) (a .count) (a .at) (p .0) (sym (c .before .find-wave .ensures ∙ chain-finds (a .file .now) (a .heads .now) (a .next .now) (a .places .now) (a .count) (a .at) (p .0) (a .bucket) (p .1)) ∙ c .if1 .taken)
+    let s = c .before .before .before .before in
+    let a = s .args in
+    let p = s .pre in
+    place-missing (a .file .now) (a .heads .now) (a .next .now) (a .places .now) (a .count) (a .at) (p .0)
+    (sym (c .before .find-wave .ensures ∙ chain-finds (a .file .now) (a .heads .now) (a .next .now) (a .places .now) (a .count) (a .at) (p .0) (a .bucket) (p .1)) ∙ c .if1 .taken)
 
 sub-result : tie.Need-sub-result
 sub-result c = omega arith
 
 returns-2 : tie.Need-returns-2
 returns-2 c =
-    let a = c .before .before .before .before .args in
-    let p = c .before .before .before .before .pre in
-    place-found (a .file .now) (a .heads .now) (a .next .now) (a .places .now) (a .count) (a .at) (p .0) _ (sym (c .before .find-wave .ensures ∙ chain-finds (a .file .now) (a .heads .now) (a .next .now) (a .places .now) (a .count) (a .at) (p .0) (a .bucket) (p .1)) ∙ omega (arith, c .if1 .left))
+    let s = c .before .before .before .before in
+    let a = s .args in
+    let p = s .pre in
+    place-found (a .file .now) (a .heads .now) (a .next .now) (a .places .now) (a .count) (a .at) (p .0) _
+    (sym (c .before .find-wave .ensures ∙ chain-finds (a .file .now) (a .heads .now) (a .next .now) (a .places .now) (a .count) (a .at) (p .0) (a .bucket) (p .1)) ∙ omega (arith, c .if1 .left))
 
 pub wave-number-spec : {M : Type 1} → statement M
-wave-number-spec =
-    tie.close
-    (tie.spec
-    mul-first
-    element-copy-out-first
-    cast-first
-    find-wave-requires
-    returns
-    sub-result
-    returns-2)
+wave-number-spec = tie.close (tie.spec mul-first element-copy-out-first cast-first find-wave-requires returns sub-result returns-2)

@@ -14,17 +14,19 @@ returns-2 c = rw (← (c .before .before .before .before .passes .ensures), c .b
 
 returns-3 : tie.Need-returns-3
 unfolding tooLong fitting
-returns-3 c = rw (← (c .before .before .before .before .before .before .before .passes .ensures), c .before .before .before .before .before .before .if1 .left, ← (c .before .before .before .before .passes2 .ensures), c .before .before .before .if2 .left, c .before .before .if3 .taken, ← (c .before .passes3 .ensures), c .if4 .taken)
+returns-3 c =
+    let t = c .before .before .before in
+    rw (← (t .before .before .before .before .passes .ensures), t .before .before .before .if1 .left, ← (t .before .passes2 .ensures), t .if2 .left, c .before .before .if3 .taken, ← (c .before .passes3 .ensures), c .if4 .taken)
 
 returns-4 : tie.Need-returns-4
 unfolding tooLong fitting
-returns-4 c = rw (← (c .before .before .before .before .before .before .before .passes .ensures), c .before .before .before .before .before .before .if1 .left, ← (c .before .before .before .before .passes2 .ensures), c .before .before .before .if2 .left, c .before .before .if3 .taken, ← (c .before .passes3 .ensures), c .if4 .left)
+returns-4 c =
+    let t = c .before .before .before in
+    rw (← (t .before .before .before .before .passes .ensures), t .before .before .before .if1 .left, ← (t .before .passes2 .ensures), t .if2 .left, c .before .before .if3 .taken, ← (c .before .passes3 .ensures), c .if4 .left)
 
 returns-5 : tie.Need-returns-5
 unfolding tooLong fitting
 returns-5 c = rw (← (c .before .before .before .before .before .passes .ensures), c .before .before .before .before .if1 .left, ← (c .before .before .passes2 .ensures), c .before .if2 .left, c .if3 .left)
 
 pub fitting-spec : {M : Type 1} → statement M
-fitting-spec =
-    tie.close
-    (tie.spec (search needs) returns (search needs) (search needs) returns-2 (search needs) returns-3 returns-4 returns-5)
+fitting-spec = tie.close (tie.spec (search needs) returns (search needs) (search needs) returns-2 (search needs) returns-3 returns-4 returns-5)

@@ -1,4 +1,4 @@
--- `answers::card::card_at` meets its contract: a table has eight cards. Assumes nothing.
+-- `answers::card::card_at` meets its contract: a table has eight cards.
 use borrow.Author.Needs.{needs}
 use borrow.Author.Tests.{lt-ltb, le-ltb}
 use native.Mathlib.Omega.{arith}
@@ -15,9 +15,5 @@ returns c =
     let t = s .args .t1 in
     rw (c .card-of .ensures, lt-ltb _ _ (c .before .before .if1 .taken)) (ap cardFields (getD-any (t .cards) (s .args .index) _ _ (omega (arith, eight t _ (s .good .0)))))
 
-returns-2 : tie.Need-returns-2
-returns-2 c = simp (le-ltb _ _ (c .if1 .left))
-
 pub card-at-spec : {M : Type 1} → statement M
-card-at-spec =
-    tie.close (tie.spec (search needs) (search needs) (search needs) returns returns-2)
+card-at-spec = tie.close (tie.spec (search needs) (search needs) (search needs) returns (λ c. simp (le-ltb _ _ (c .if1 .left))))

@@ -1,6 +1,5 @@
--- `compare::accepted::frames_agree` meets its contract. Assumes nothing.
+-- `compare::accepted::frames_agree` meets its contract: other counts are false, and else the frames decide.
 use borrow.Author.Needs.{needs}
-use Prim.Native.Nat.{_-_}
 use borrow.Author.Tests.{eq-eqb, ne-eqb}
 use Rattle.compare.specs.Accepted.{framesAgree}
 use Rattle.compare.proofs.accepted.frames_agree.Statement.{statement}
@@ -15,6 +14,4 @@ unfolding framesAgree
 returns-2 c = rw (eq-eqb _ _ (c .before .before .before .if1 .left)) (c .same-frames .ensures)
 
 pub frames-agree-spec : {M : Type 1} → statement M
-frames-agree-spec =
-    tie.close
-    (tie.spec returns (search needs) (search needs) (search needs) (search needs) returns-2)
+frames-agree-spec = tie.close (tie.spec returns (search needs) (search needs) (search needs) (search needs) (search needs) (search needs) returns-2)

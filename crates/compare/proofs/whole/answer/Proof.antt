@@ -1,4 +1,4 @@
--- `compare::whole::answer` meets its contract. Assumes nothing.
+-- `compare::whole::answer` meets its contract, by cases on whether they agree.
 use mathlib.Core.Path.{sym, ap}
 use Rattle.format.specs.Compare.{agreed}
 use Rattle.compare.proofs.whole.answer.Statement.{statement}

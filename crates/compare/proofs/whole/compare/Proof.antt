@@ -1,31 +1,54 @@
--- `compare::whole::compare` meets its contract. Assumes nothing.
+-- `compare::whole::compare` meets its contract: the first file that is refused is the answer and leaves the images, else the answer is that
+-- for two headers.
 use borrow.Author.Needs.{needs}
-use Prim.Native.Nat.{_-_}
-use mathlib.Core.Path.{sym, ap, _∙_}
+use mathlib.Core.Path.{_≡_, refl, sym, ap, _∙_}
 use lib.ListN.{length}
-use Rattle.format.specs.Stream.{read}
+use Rattle.format.specs.declared.header.Header.{Header}
+use Rattle.format.specs.Checked.{Checked}
+use Rattle.compare.specs.declared.version.VersionCheck.{VersionCheck}
 use Rattle.compare.specs.Answer.{versionCheckOf}
-use Rattle.compare.proofs.Answers.{has, image-stays, master-refused, other-refused}
+use Rattle.compare.proofs.Answers.{has, refused-with, master-refused, other-refused}
 use Rattle.compare.proofs.whole.compare.Statement.{statement}
 use Rattle.compare.proofs.whole.compare.Tie as tie
 
+-- what a check gave, by the arm that was taken
+told : {answer arm : VersionCheck} {is : Checked Header} → versionCheckOf answer ≡ is → answer ≡ arm → is ≡ versionCheckOf arm
+told e p = sym e ∙ ap versionCheckOf p
+
 compare-headers-requires : tie.Need-compare-headers-requires
-compare-headers-requires c κs = (sym (c .before .before .before .before .before .before .before .before .before .check-version .ensures) ∙ ap versionCheckOf (c .before .before .before .before .before .before .before .header .given .1), sym (c .before .before .before .before .before .check-version2 .ensures) ∙ ap versionCheckOf (c .before .before .before .other-header .given .1))
+compare-headers-requires c κs =
+    let other = c .before .before .before in
+    let second = other .before .before in
+    let master = second .before .before in
+    (told (master .before .before .check-version .ensures) (master .header .given .1), told (second .check-version2 .ensures) (other .other-header .given .1))
 
 returns : tie.Need-returns
 returns c =
-    let a = c .before .before .before .before .before .before .before .before .args in
-    let refused = master-refused (a .master .now) (a .other .now) (length (a .master-image .now)) (length (a .other-image .now)) _ _ (sym (c .before .before .before .check-version .ensures) ∙ ap versionCheckOf (c .before .refusal .given .1)) in
-    (sym refused, sym (image-stays _ (read (a .master .now)) (a .master-image .now) _ _ _ refused), sym (image-stays _ (read (a .other .now)) (a .other-image .now) _ _ _ refused))
+    let first = c .before .before .before in
+    let a = first .before .before .before .before .before .args in
+    let master = a .master .now in
+    let other = a .other .now in
+    let image = a .master-image .now in
+    let image′ = a .other-image .now in
+    let gone = told (first .check-version .ensures) (c .before .refusal .given .1) in
+    refused-with master other image image′ _ _ _ _ refl (master-refused master other (length image) (length image′) _ _ gone)
 
 returns-2 : tie.Need-returns-2
 returns-2 c =
-    let a = c .before .before .before .before .before .before .before .before .before .before .before .before .args in
-    let m = has 1 (a .master .now) _ (sym (c .before .before .before .before .before .before .before .check-version .ensures) ∙ ap versionCheckOf (c .before .before .before .before .before .header .given .1)) in
-    let refused = other-refused (a .master .now) (a .other .now) (length (a .master-image .now)) (length (a .other-image .now)) _ m _ _ (sym (c .before .before .before .check-version2 .ensures) ∙ ap versionCheckOf (c .before .refusal2 .given .1)) in
-    (sym refused, sym (image-stays _ (read (a .master .now)) (a .master-image .now) _ _ _ refused), sym (image-stays _ (read (a .other .now)) (a .other-image .now) _ _ _ refused))
+    let second = c .before .before .before in
+    let accepted = second .before .before in
+    let first = accepted .before .before in
+    let a = first .before .before .before .before .before .args in
+    let master = a .master .now in
+    let other = a .other .now in
+    let image = a .master-image .now in
+    let image′ = a .other-image .now in
+    let m = has 1 master _ (told (first .check-version .ensures) (accepted .header .given .1)) in
+    let gone = told (second .check-version2 .ensures) (c .before .refusal2 .given .1) in
+    refused-with master other image image′ _ _ _ _ refl (other-refused master other (length image) (length image′) _ m _ _ gone)
 
 pub compare-spec : {M : Type 1} → statement M
 compare-spec =
     tie.close
-    (tie.spec (λ c κs. search needs) (λ c. search needs) (λ c. search needs) (λ c κs. search needs) (λ c. search needs) (λ c. search needs) compare-headers-requires returns returns-2 (λ c. search needs) (λ c. search needs) (λ c. search needs))
+    (tie.spec (λ c κs. search needs) (λ c. search needs) (λ c. search needs) (λ c κs. search needs) (λ c. search needs) (λ c. search needs) compare-headers-requires returns returns-2
+    (λ c. search needs) (λ c. search needs) (λ c. search needs))

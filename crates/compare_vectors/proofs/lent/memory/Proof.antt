@@ -1,4 +1,4 @@
--- `compare_vectors::lent::memory` meets its contract. Assumes nothing.
+-- `compare_vectors::lent::memory` meets its contract: a list of so many equal bytes is so long.
 use Prim.Native.Nat.{ℕ}
 use mathlib.Core.Path.{sym}
 use lib.ListN.{length-replicate}

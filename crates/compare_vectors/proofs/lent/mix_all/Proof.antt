@@ -1,4 +1,4 @@
--- `compare_vectors::lent::mix_all` is safe and ends. Assumes nothing.
+-- `compare_vectors::lent::mix_all` is safe and ends: the measure is the bytes that are left.
 use Prim.Native.Nat.{_-_}
 use lib.ListN.{length}
 use borrow.Author.Needs.{needs}
@@ -14,14 +14,5 @@ abbrev μ-loop : tie.MeasureT-loop
 pub mix-all-spec : {M : Type 1} → statement M
 mix-all-spec =
     tie.close
-    (tie.spec
-    Inv-loop
-    μ-loop
-    (λ c. search needs)
-    (λ c κs. search needs)
-    (λ c. search needs)
-    (λ c κs. search needs)
-    (λ c. search needs)
-    (λ c. search needs)
-    (λ c. search needs)
+    (tie.spec Inv-loop μ-loop (λ c. search needs) (λ c κs. search needs) (λ c. search needs) (λ c κs. search needs) (λ c. search needs) (λ c. search needs) (λ c. search needs)
     (λ c. search needs))

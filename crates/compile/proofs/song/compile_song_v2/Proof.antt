@@ -1,4 +1,4 @@
--- `compile::song::compile_song_v2` meets its contract. Assumes nothing.
+-- A refused file is refused alike, and an accepted one is repacked.
 use mathlib.Core.Path.{refl}
 use borrow.Author.Needs.{needs}
 use Rattle.compile.specs.declared.song.Repacked.the-variants.{Refused}
@@ -9,7 +9,9 @@ use Rattle.compile.proofs.song.compile_song_v2.Tie as tie
 
 repack-accepted-requires : tie.Need-repack-accepted-requires
 repack-accepted-requires c κs =
-    let found = accepted-as (c .before .before .before .before .before .before .before .args .file .now) _ _ _ (c .before .before .before .before .check-file .ensures) (c .before .before .answer .given .1) in
+    let t = c .before .before .before .before in
+    let s = t .before .before .before in
+    let found = accepted-as (s .args .file .now) _ _ _ (t .check-file .ensures) (c .before .before .answer .given .1) in
     record { stream = found .stream; reads = found .reads; header-is = found .header-is }
 
 returns-2 : tie.Need-returns-2
@@ -19,6 +21,4 @@ returns-2 c =
     refuses (s .args .file .now) (s .args .buffer .now) _ _ (Refused (c .before .answer2 .given .0 .0)) (not-read (s .args .file .now) _ _ _ found) refl
 
 pub compile-song-v2-spec : {M : Type 1} → statement M
-compile-song-v2-spec =
-    tie.close
-    (tie.spec (search needs) (λ c. search needs) repack-accepted-requires (λ c. search needs) (λ c. search needs) (λ c. search needs) returns-2)
+compile-song-v2-spec = tie.close (tie.spec (search needs) (λ c. search needs) repack-accepted-requires (λ c. search needs) (λ c. search needs) (λ c. search needs) returns-2)

@@ -1,4 +1,4 @@
--- `compile::song::repack_accepted` meets its contract. Assumes nothing.
+-- The version and the order of the PCM records decide.
 use mathlib.Core.Path.{sym, ap, _∙_}
 use borrow.Author.Needs.{needs}
 use Rattle.repack_opening.specs.Opening.{pcmIn}
@@ -18,15 +18,22 @@ pcm-run-requires c κs =
 
 repack-measured-requires : tie.Need-repack-measured-requires
 repack-measured-requires c κs =
-    let s = c .before .before .before .before .before .before .before .before .before .before in
-    record { taken = s .pre; one = c .before .before .before .before .before .before .if1 .left; run = sym (c .before .before .before .before .pcm-run .ensures) ∙ ap pcmIn (c .before .before .pcm .given .1) }
+    let t = c .before .before .before .before in
+    let u = t .before .before in
+    let v = u .before .before .before .before in
+    let s = v in
+    record { taken = s .pre; one = u .if1 .left; run = sym (t .pcm-run .ensures) ∙ ap pcmIn (c .before .before .pcm .given .1) }
 
 returns-3 : tie.Need-returns-3
 returns-3 c =
-    let s = c .before .before .before .before .before .before .before .before .before in
-    refuses (s .args .file .now) (s .args .buffer .now) 22 0 (c .refused2 .result) (out-of-order (s .pre) (c .before .before .before .before .before .if1 .left) _ (sym (c .before .before .before .pcm-run .ensures) ∙ ap pcmIn (c .before .enum-told .given .1))) (c .refused2 .ensures)
+    let t = c .before .before .before .before .before in
+    let u = t .before .before .before .before in
+    let s = u in
+    refuses (s .args .file .now) (s .args .buffer .now) 22 0 (c .refused2 .result)
+    (out-of-order (s .pre) (t .if1 .left) _ (sym (c .before .before .before .pcm-run .ensures) ∙ ap pcmIn (c .before .enum-told .given .1))) (c .refused2 .ensures)
 
 pub repack-accepted-spec : {M : Type 1} → statement M
 repack-accepted-spec =
     tie.close
-    (tie.spec (λ c κs. search needs) returns (λ c. search needs) pcm-run-requires (λ c. search needs) repack-measured-requires (λ c. search needs) (λ c κs. search needs) (λ c. search needs) (λ c. search needs) returns-3)
+    (tie.spec (λ c κs. search needs) returns (λ c. search needs) pcm-run-requires (λ c. search needs) repack-measured-requires (λ c. search needs) (λ c κs. search needs) (λ c. search needs)
+    (λ c. search needs) returns-3)

@@ -16,7 +16,12 @@ returns c =
     let read = c .before .before .before .before .before .parse-v4-cards in
     let file = s .args .file .now in
     let header = s .args .header in
-    rw (cards-place file header (header-is file header (s .pre)), tables-passed (verdictOf (read .result .verdict)) (layoutFrom header file) (read .result .cards) (behindTables file header) (cardsFrom file (header .«card_count») 48 0) (read .ensures) (sym (c .before .before .before .check-layout .ensures) ∙ ap verdictOf (c .before .enum-told .given .1))) (c .check-behind-tables .ensures)
+    rw (
+      cards-place file header (header-is file header (s .pre)),
+      tables-passed (verdictOf (read .result .verdict)) (layoutFrom header file) (read .result .cards) (behindTables file header) (cardsFrom file (header .«card_count») 48 0)
+          (read .ensures) (sym (c .before .before .before .check-layout .ensures) ∙ ap verdictOf (c .before .enum-told .given .1)),
+    )
+    (c .check-behind-tables .ensures)
 
 returns-2 : tie.Need-returns-2
 returns-2 c =
@@ -24,9 +29,12 @@ returns-2 c =
     let read = c .before .before .before .before .before .before .parse-v4-cards in
     let file = s .args .file .now in
     let header = s .args .header in
-    rw (cards-place file header (header-is file header (s .pre)), tables-refused (verdictOf (read .result .verdict)) (layoutFrom header file) (read .result .cards) (behindTables file header) (cardsFrom file (header .«card_count») 48 0) _ _ (read .ensures) (sym (c .before .before .before .before .check-layout .ensures) ∙ ap verdictOf (c .before .before .refusal .given .1))) (c .refused-file .ensures)
+    rw (
+      cards-place file header (header-is file header (s .pre)),
+      tables-refused (verdictOf (read .result .verdict)) (layoutFrom header file) (read .result .cards) (behindTables file header) (cardsFrom file (header .«card_count») 48 0) _ _
+          (read .ensures) (sym (c .before .before .before .before .check-layout .ensures) ∙ ap verdictOf (c .before .before .refusal .given .1)),
+    )
+    (c .refused-file .ensures)
 
 pub check-behind-header-spec : {M : Type 1} → statement M
-check-behind-header-spec =
-    tie.close
-    (tie.spec (search needs) (search needs) (search needs) (search needs) (search needs) (search needs) returns returns-2)
+check-behind-header-spec = tie.close (tie.spec (search needs) (search needs) (search needs) (search needs) (search needs) (search needs) returns returns-2)

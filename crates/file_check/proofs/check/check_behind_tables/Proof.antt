@@ -10,6 +10,4 @@ returns-2 : tie.Need-returns-2
 returns-2 c = rw (← (c .before .before .before .before .check-parts .ensures), c .before .before .refusal .given .1) (c .refused-file .ensures)
 
 pub check-behind-tables-spec : {M : Type 1} → statement M
-check-behind-tables-spec =
-    tie.close
-    (tie.spec (search needs) (search needs) (search needs) (search needs) returns returns-2)
+check-behind-tables-spec = tie.close (tie.spec (search needs) (search needs) (search needs) (search needs) returns returns-2)

@@ -10,12 +10,13 @@ check-behind-header-requires : tie.Need-check-behind-header-requires
 check-behind-header-requires c κs = sym (c .before .before .before .read-header .ensures) ∙ ap headerIn (c .before .header .given .1)
 
 returns : tie.Need-returns
-returns c = rw (read-found (c .before .before .before .before .before .before .args .file .now) _ (sym (c .before .before .before .before .read-header .ensures) ∙ ap headerIn (c .before .before .header .given .1))) (c .check-behind-header .ensures)
+returns c =
+    rw (read-found (c .before .before .before .before .before .before .args .file .now) _ (sym (c .before .before .before .before .read-header .ensures) ∙ ap headerIn (c .before .before .header .given .1)))
+    (c .check-behind-header .ensures)
 
 returns-2 : tie.Need-returns-2
-returns-2 c = rw (read-refused (c .before .before .before .before .before .before .args .file .now) _ _ (sym (c .before .before .before .before .read-header .ensures) ∙ ap headerIn (c .before .before .rule .given .1))) (c .refused-file .ensures)
+returns-2 c =
+    rw (read-refused (c .before .before .before .before .before .before .args .file .now) _ _ (sym (c .before .before .before .before .read-header .ensures) ∙ ap headerIn (c .before .before .rule .given .1))) (c .refused-file .ensures)
 
 pub check-file-spec : {M : Type 1} → statement M
-check-file-spec =
-    tie.close
-    (tie.spec (search needs) (search needs) check-behind-header-requires (search needs) (search needs) returns returns-2)
+check-file-spec = tie.close (tie.spec (search needs) (search needs) check-behind-header-requires (search needs) (search needs) returns returns-2)

@@ -14,5 +14,4 @@ unfolding itemAt
 returns-2 c = simp (ne-eqb _ _ (c .before .if1 .left)) (c .read-operation .ensures)
 
 pub read-item-spec : {M : Type 1} → statement M
-read-item-spec =
-    tie.close (tie.spec (search needs) returns (search needs) returns-2)
+read-item-spec = tie.close (tie.spec (search needs) returns (search needs) returns-2)

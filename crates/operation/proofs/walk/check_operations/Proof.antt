@@ -40,6 +40,4 @@ returns-2 c =
     rw (l .loop .inv, none, walk-end (l .loop .seen) (settingOf (a .file .now) (a .header) (a .cards)) (a .file .now) (a .limit) (l .loop .at))
 
 pub check-operations-spec : {M : Type 1} → statement M
-check-operations-spec =
-    tie.close
-    (tie.spec Inv-loop μ-loop loop-holds (search needs) (search needs) (search needs) returns (search needs) (search needs) loop-again returns-2)
+check-operations-spec = tie.close (tie.spec Inv-loop μ-loop loop-holds (search needs) (search needs) (search needs) returns (search needs) (search needs) loop-again returns-2)

@@ -12,6 +12,4 @@ returns-2 : tie.Need-returns-2
 returns-2 c = simp (← (c .before .before .before .read-item .ensures), c .before .refusal .given .1)
 
 pub step-spec : {M : Type 1} → statement M
-step-spec =
-    tie.close
-    (tie.spec (search needs) (search needs) (search needs) (search needs) returns returns-2)
+step-spec = tie.close (tie.spec (search needs) (search needs) (search needs) (search needs) returns returns-2)

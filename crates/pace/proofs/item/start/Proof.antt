@@ -23,6 +23,4 @@ returns-3 c =
     (rw (← (found .before .before .item-used .ensures), found .operation .given .1, ← (count .count-of .ensures), le-ltb _ _ (c .before .if1 .left), ← (c .waves-now .ensures)), omega arith)
 
 pub start-spec : {M : Type 1} → statement M
-start-spec =
-    tie.close
-    (tie.spec (search needs) (search needs) (search needs) (search needs) returns (search needs) (search needs) returns-2 (search needs) returns-3)
+start-spec = tie.close (tie.spec (search needs) (search needs) (search needs) (search needs) returns (search needs) (search needs) returns-2 (search needs) returns-3)

@@ -6,7 +6,7 @@ use Prim.Native.Nat.{_+_, _^_, _≤_, _<_}
 use mathlib.Core.Path.{_≡_}
 use Rattle.format.specs.Pace.{paced}
 use Rattle.format.specs.Player.{placed, operationsLeft, as25}
-use Rattle.agreement.proofs.Paced.{paced-end, paced-full}
+use Rattle.play_laws.proofs.Paced.{paced-end, paced-full}
 use Rattle.pace.proofs.Pacing.{paced-25}
 use Rattle.pace.proofs.operations.pace.Statement.{statement}
 use Rattle.pace.proofs.operations.pace.Tie as tie
@@ -32,16 +32,28 @@ returns-2 c =
     let start = c .before .before in
     let l = start .before .before .before in
     let a = l .before .before .before .before .args in
-    let p = placed (a .progress) (l .loop .cursor) (l .loop .operations) (l .loop .writes) (l .loop .waves) in
-    (rw (l .loop .inv .2, paced-25 (a .state) (a .file .now) (a .limit) (l .loop .left) (l .loop .free) p (omega arith) (omega arith), ← (start .start .ensures .0), c .before .if2 .taken, c .answer2 .ensures), rw (c .answer2 .ensures) (omega arith))
+    let p = placed (a .progress) (l .loop .cursor) (l .loop .operations) (l .loop .writes) (l .loop .waves) in (
+      rw (l .loop .inv .2, paced-25 (a .state) (a .file .now) (a .limit) (l .loop .left) (l .loop .free) p (omega arith) (omega arith), ← (start .start .ensures .0), c .before .if2 .taken, c .answer2 .ensures),
+      rw (c .answer2 .ensures) (omega arith),
+    )
 
 returns-3 : tie.Need-returns-3 Inv-loop μ-loop
 returns-3 c =
     let start = c .before .before .before .before .before in
     let l = start .before .before .before in
     let a = l .before .before .before .before .args in
-    let p = placed (a .progress) (l .loop .cursor) (l .loop .operations) (l .loop .writes) (l .loop .waves) in
-    (rw (l .loop .inv .2, paced-25 (a .state) (a .file .now) (a .limit) (l .loop .left) (l .loop .free) p (omega arith) (omega arith), ← (start .start .ensures .0), c .before .before .before .before .if2 .left, lt-ltb _ _ (c .before .before .if3 .taken), c .answer3 .ensures, c .before .placed2 .ensures), rw (c .answer3 .ensures) (omega arith))
+    let p = placed (a .progress) (l .loop .cursor) (l .loop .operations) (l .loop .writes) (l .loop .waves) in (
+      rw (
+        l .loop .inv .2,
+        paced-25 (a .state) (a .file .now) (a .limit) (l .loop .left) (l .loop .free) p (omega arith) (omega arith),
+        ← (start .start .ensures .0),
+        c .before .before .before .before .if2 .left,
+        lt-ltb _ _ (c .before .before .if3 .taken),
+        c .answer3 .ensures,
+        c .before .placed2 .ensures,
+      ),
+      rw (c .answer3 .ensures) (omega arith),
+    )
 
 loop-less : tie.Need-loop-less Inv-loop μ-loop
 loop-less c = omega arith
@@ -51,8 +63,11 @@ loop-again c =
     let start = c .before .before .before in
     let l = start .before .before .before in
     let a = l .before .before .before .before .args in
-    let p = placed (a .progress) (l .loop .cursor) (l .loop .operations) (l .loop .writes) (l .loop .waves) in
-    (omega arith, omega arith, rw (l .loop .inv .2, paced-25 (a .state) (a .file .now) (a .limit) (l .loop .left) (l .loop .free) p (omega arith) (omega arith), ← (start .start .ensures .0), c .before .before .if2 .left, le-ltb _ _ (c .if3 .left)))
+    let p = placed (a .progress) (l .loop .cursor) (l .loop .operations) (l .loop .writes) (l .loop .waves) in (
+      omega arith,
+      omega arith,
+      rw (l .loop .inv .2, paced-25 (a .state) (a .file .now) (a .limit) (l .loop .left) (l .loop .free) p (omega arith) (omega arith), ← (start .start .ensures .0), c .before .before .if2 .left, le-ltb _ _ (c .if3 .left)),
+    )
 
 returns-4 : tie.Need-returns-4 Inv-loop μ-loop
 returns-4 c =
@@ -64,4 +79,5 @@ returns-4 c =
 pub pace-spec : {M : Type 1} → statement M
 pace-spec =
     tie.close
-    (tie.spec Inv-loop μ-loop (search needs) loop-holds (search needs) (search needs) returns (search needs) (search needs) returns-2 (search needs) (search needs) (search needs) (search needs) (search needs) returns-3 (search needs) (search needs) (search needs) (search needs) loop-less loop-again (search needs) (search needs) returns-4)
+    (tie.spec Inv-loop μ-loop (search needs) loop-holds (search needs) (search needs) returns (search needs) (search needs) returns-2 (search needs) (search needs) (search needs)
+    (search needs) (search needs) returns-3 (search needs) (search needs) (search needs) (search needs) loop-less loop-again (search needs) (search needs) returns-4)

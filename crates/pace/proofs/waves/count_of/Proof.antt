@@ -13,6 +13,4 @@ returns-3 : tie.Need-returns-3
 returns-3 c = rw (c .before .operation2 .given .1)
 
 pub count-of-spec : {M : Type 1} → statement M
-count-of-spec =
-    tie.close
-    (tie.spec (search needs) (search needs) (search needs) returns returns-2 returns-3)
+count-of-spec = tie.close (tie.spec (search needs) (search needs) (search needs) returns returns-2 returns-3)

@@ -24,6 +24,4 @@ unfolding wavesBy
 returns-4 c = rw (c .before .before .before .before .operation .given .1, ne-eqb _ _ (λ e. c .if1 .left (ap (λ (pool : Pool). pool .kind) (c .before .before .read-pool .ensures) ∙ e)))
 
 pub waves-by-spec : {M : Type 1} → statement M
-waves-by-spec =
-    tie.close
-    (tie.spec (search needs) (search needs) (search needs) (search needs) (search needs) (search needs) returns returns-2 returns-3 returns-4)
+waves-by-spec = tie.close (tie.spec (search needs) (search needs) (search needs) (search needs) (search needs) (search needs) returns returns-2 returns-3 returns-4)

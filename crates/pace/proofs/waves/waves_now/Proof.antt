@@ -11,6 +11,4 @@ returns-2 : tie.Need-returns-2
 returns-2 c = rw (ne-eqb _ _ (c .if1 .left))
 
 pub waves-now-spec : {M : Type 1} → statement M
-waves-now-spec =
-    tie.close
-    (tie.spec (search needs) returns returns-2)
+waves-now-spec = tie.close (tie.spec (search needs) returns returns-2)

@@ -11,6 +11,4 @@ returns-2 : tie.Need-returns-2
 returns-2 c = rw (set-out (c .before .args .waves) (c .before .args .target * 8 + c .before .args .address / 256) (record { copied = true; pool = c .before .args .id }) (omega arith))
 
 pub waves-with-spec : {M : Type 1} → statement M
-waves-with-spec =
-    tie.close
-    (tie.spec (search needs) (search needs) (search needs) (search needs) (search needs) returns-2)
+waves-with-spec = tie.close (tie.spec (search needs) (search needs) (search needs) (search needs) (search needs) returns-2)

@@ -15,14 +15,15 @@ returns c = rw (c .if1 .taken)
 returns-2 : tie.Need-returns-2
 returns-2 c =
     let a = c .before .before .before .before .before .before .before .args in
-    planned-foreign (a .state) (a .file .now) (a .room) (c .before .before .foreign .result) _ (c .before .before .before .before .if1 .left) (ap (refuse 25 0) (c .before .before .foreign .ensures) ∙ foreign-is (a .state) (a .file .now)) (c .before .if2 .taken) (c .refused-plan .ensures)
+    planned-foreign (a .state) (a .file .now) (a .room) (c .before .before .foreign .result) _ (c .before .before .before .before .if1 .left)
+    (ap (refuse 25 0) (c .before .before .foreign .ensures) ∙ foreign-is (a .state) (a .file .now)) (c .before .if2 .taken) (c .refused-plan .ensures)
 
 returns-3 : tie.Need-returns-3
 returns-3 c =
     let a = c .before .before .before .before .before .before .before .before .args in
-    planned-own (a .state) (a .file .now) (a .room) (c .before .before .before .foreign .result) (c .before .plan-part .result) _ (c .before .before .before .before .before .if1 .left) (ap (refuse 25 0) (c .before .before .before .foreign .ensures) ∙ foreign-is (a .state) (a .file .now)) (c .before .before .if2 .left) (c .told .ensures) (c .before .plan-part .ensures)
+    planned-own (a .state) (a .file .now) (a .room) (c .before .before .before .foreign .result) (c .before .plan-part .result) _ (c .before .before .before .before .before .if1 .left)
+    (ap (refuse 25 0) (c .before .before .before .foreign .ensures) ∙ foreign-is (a .state) (a .file .now)) (c .before .before .if2 .left) (c .told .ensures)
+    (c .before .plan-part .ensures)
 
 pub plan-call-spec : {M : Type 1} → statement M
-plan-call-spec =
-    tie.close
-    (tie.spec returns (search needs) (search needs) returns-2 (search needs) (search needs) returns-3)
+plan-call-spec = tie.close (tie.spec returns (search needs) (search needs) returns-2 (search needs) (search needs) returns-3)

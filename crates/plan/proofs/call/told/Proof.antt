@@ -10,6 +10,4 @@ returns-2 : tie.Need-returns-2
 returns-2 c = rw (c .before .before .if1 .left, c .moved .ensures)
 
 pub told-spec : {M : Type 1} → statement M
-told-spec =
-    tie.close
-    (tie.spec (search needs) returns (search needs) returns-2)
+told-spec = tie.close (tie.spec (search needs) returns (search needs) returns-2)

@@ -1,6 +1,6 @@
--- `plan::closing::plan_closing` meets its contract. Assumes nothing.
-use borrow.Author.Needs.{needs}
+-- `plan_closing` takes as many of the writes that are left as there is room for.
 use borrow.Author.Tests.{lt-ltb, le-ltb}
+use borrow.Author.Needs.{needs}
 use Rattle.plan.proofs.closing.plan_closing.Statement.{statement}
 use Rattle.plan.proofs.closing.plan_closing.Tie as tie
 
@@ -9,10 +9,10 @@ returns c = rw (← (c .before .before .closing-count .ensures), lt-ltb _ _ (c .
 
 returns-2 : tie.Need-returns-2
 returns-2 c =
-    let total = c .before .before .before in
-    rw (← (total .closing-count .ensures), le-ltb _ _ (c .before .before .if1 .left), ← (c .before .fitting .ensures), c .closing-at .ensures)
+    let t = c .before .before in
+    rw (← (t .before .closing-count .ensures), le-ltb _ _ (t .if1 .left), ← (c .before .smaller .ensures .0), c .closing-at .ensures)
 
 pub plan-closing-spec : {M : Type 1} → statement M
 plan-closing-spec =
     tie.close
-    (tie.spec (search needs) (search needs) returns (search needs) (search needs) (search needs) (search needs) (search needs) returns-2)
+    (tie.spec (search needs) (search needs) returns (search needs) (search needs) (search needs) (search needs) (search needs) (search needs) (search needs) returns-2)

@@ -13,9 +13,7 @@ returns c =
 returns-2 : tie.Need-returns-2
 returns-2 c =
     let left = c .before .before in
-    (rw (← (left .operations-left .ensures .0), eq-eqb _ _ (c .before .if1 .left), c .begun .ensures), refl)
+    (rw (← (left .operations-left .ensures .0), eq-eqb _ _ (c .before .if1 .left), c .frame-ended .ensures), refl)
 
 pub ended-spec : {M : Type 1} → statement M
-ended-spec =
-    tie.close
-    (tie.spec (search needs) returns (search needs) returns-2)
+ended-spec = tie.close (tie.spec (search needs) returns (search needs) returns-2)

@@ -10,10 +10,10 @@ use Rattle.plan.proofs.frame.plan_frame.Tie as tie
 returns : tie.Need-returns
 returns c =
     let pace = c .before .before in
-    let a = pace .before .before .args in
-    (rw (c .ended .ensures .0, c .before .taken-by .ensures) (told-frame (a .state) (a .file .now) (a .room) (a .progress) (pace .pace .result) (pace .pace .ensures .0)), omega (arith, c .ended .ensures .1, ap (λ (t : Taken). t .count) (c .before .taken-by .ensures)))
+    let a = pace .before .before .args in (
+      rw (c .ended .ensures .0, c .before .taken-by .ensures) (told-frame (a .state) (a .file .now) (a .room) (a .progress) (pace .pace .result) (pace .pace .ensures .0)),
+      omega (arith, c .ended .ensures .1, ap (λ (t : Taken). t .count) (c .before .taken-by .ensures)),
+    )
 
 pub plan-frame-spec : {M : Type 1} → statement M
-plan-frame-spec =
-    tie.close
-    (tie.spec (search needs) (search needs) (search needs) returns)
+plan-frame-spec = tie.close (tie.spec (search needs) (search needs) (search needs) returns)

@@ -35,9 +35,18 @@ returns-3 c =
     let taken = left .before .before .before in
     let pace = taken .before in
     let a = pace .before .before .before .args in
-    rw (told-bind, ← (pace .before .opening-limit .ensures), ← (pace .pace .ensures .0), left .before .before .if1 .left, ← (left .operations-left .ensures .0), eq-eqb _ _ (c .before .before .if2 .left), c .behind .ensures, taken .taken-by .ensures) (told-behind (a .state) (a .file .now) (a .room - pace .pace .result .room) (pace .pace .result .room) (a .state .header .«frame_start») (pace .pace .result .progress) (c .before .begin-frame .result) (c .before .begin-frame .ensures .0))
+    rw (
+      told-bind,
+      ← (pace .before .opening-limit .ensures),
+      ← (pace .pace .ensures .0),
+      left .before .before .if1 .left,
+      ← (left .operations-left .ensures .0),
+      eq-eqb _ _ (c .before .before .if2 .left),
+      c .behind .ensures,
+      taken .taken-by .ensures,
+    )
+    (told-behind (a .state) (a .file .now) (a .room - pace .pace .result .room) (pace .pace .result .room) (a .state .header .«frame_start») (pace .pace .result .progress)
+    (c .before .begin-frame .result) (c .before .begin-frame .ensures .0))
 
 pub plan-opening-spec : {M : Type 1} → statement M
-plan-opening-spec =
-    tie.close
-    (tie.spec (search needs) (search needs) (search needs) returns (search needs) returns-2 (search needs) behind-requires returns-3)
+plan-opening-spec = tie.close (tie.spec (search needs) (search needs) (search needs) returns (search needs) returns-2 (search needs) behind-requires returns-3)

@@ -17,7 +17,8 @@ use prog.Wp.{Heap, Env, Calls, Loops, WpFn, Tables}
 use ghost.Atoms.{Atoms, sem}
 use contract.Monad.{Fun, fact}
 use contract.Running.{givenOf, tables, tablesOf}
-use types.Kit.{Given, Item, Sq, runs, atRet, use3, feqL, ‵, raw, _⊛_, ⋆, some, later, _$_, _∵_, !, qed, by, move, keep, drop, use1, use2, split, join, pick, rewrite, fsplit, fsplit3, fjoin, fjoin3, feqI, suffices, frame, await, done}
+use types.Kit.{Given, Item, Sq, runs, atRet, use3, feqL, ‵, raw, _⊛_, ⋆, some, later, _$_, _∵_, !, qed, by, move, keep, drop, use1, use2, split, join, pick, rewrite, fsplit, fsplit3, fjoin}
+use types.Kit.{fjoin3, feqI, suffices, frame, await, done}
 use types.Run.{look, look-raw, init, store-raw, forget, stop, hop, fld, from, load, addr, of-opd, and-then, no-more, assigns, land, returns, enter, alloc1, alloc0, params1, pass1, pass0, free1, free0}
 use types.Part.{agg, whole, sub, look-in}
 use types.SemTy.{Body}
@@ -97,10 +98,12 @@ module _ {M : Type 1} (𝓤 : URA M) (H : Heap 𝓤) (A : Atoms 𝓤) (at-mem : 
   abbrev Stores : Contract 𝓤
   Stores = tripleOf 𝓤 H A sc.signature (sc.spec 𝓤 H A at-mem run)
 
-  said : (κ : Lft) (h : StreamPlayer) (x : RefT (List ℕ)) (n : ℕ) (r : CallPlan) → ent 𝓤 (ensured 𝓤 H A pc.ended (pc.clauses 𝓤 H A at-mem run) (κ, tt) (h, (x, (n, tt))) tt r) (fact 𝓤 (r ≡ planTold h (planned h (x .now) n)))
+  said : (κ : Lft) (h : StreamPlayer) (x : RefT (List ℕ)) (n : ℕ) (r : CallPlan)
+      → ent 𝓤 (ensured 𝓤 H A pc.ended (pc.clauses 𝓤 H A at-mem run) (κ, tt) (h, (x, (n, tt))) tt r) (fact 𝓤 (r ≡ planTold h (planned h (x .now) n)))
   said κ h x n r = exE 𝓤 _ (λ ws. snd∗ 𝓤 (sem 𝓤 H A (lasts pc.ended (κ, tt) (h, (x, (n, tt))) ws)) (fact 𝓤 (r ≡ planTold h (planned h (x .now) n))))
 
-module _ {M : Type 1} (𝓤 : URA M) (H : Heap 𝓤) (A : Atoms 𝓤) (W : Given 𝓤 H A) (at-mem : Memory → SProp 𝓤) (run : Routine → Fun 𝓤) (κ κ₂ κ₃ : Lft) (q q₂ q₃ : Share) (b o b₂ o₂ b₃ o₃ : ℕ) (γ γ₂ γ₃ : GName) (h : StreamPlayer) (bs : List ℕ) (ys : List WriteRecord)
+module _ {M : Type 1} (𝓤 : URA M) (H : Heap 𝓤) (A : Atoms 𝓤) (W : Given 𝓤 H A) (at-mem : Memory → SProp 𝓤) (run : Routine → Fun 𝓤) (κ κ₂ κ₃ : Lft)
+    (q q₂ q₃ : Share) (b o b₂ o₂ b₃ o₃ : ℕ) (γ γ₂ γ₃ : GName) (h : StreamPlayer) (bs : List ℕ) (ys : List WriteRecord)
     (room₂ : Room u8 (length bs)) (room₃ : Room T.the-row (length ys)) where
   abbrev x : StreamPlayer → RefT StreamPlayer
   x z = record { ptr = (b, o); name = γ; now = z }
@@ -150,13 +153,17 @@ module _ {M : Type 1} (𝓤 : URA M) (H : Heap 𝓤) (A : Atoms 𝓤) (W : Given
   Wrote r zs = zs ≡ storedCall bs h (r .count) ys
 
   exits : (r : CallPlan) (zs : List WriteRecord) → Planned r → Is S.the-row r (LL.vals S.the-type S′.the-laws r) → Wrote r zs → length zs ≡ length ys
-      → ent 𝓤 (⋆ 𝓤 H A (‵ (fobs γ (P.the-row .coded .code (r .next))) ∷ ‵ (fbor κ (Body (mem P.the-row) b o γ)) ∷ ‵ (flft κ q) ∷ ‵ (flft κ₂ q₂) ∷ ‵ (flft κ₃ q₃) ∷ ‵ (finally T.the-row γ₃ zs) ∷ ‵ File ∷ [])) (Post (ans r))
+      → ent 𝓤 (⋆ 𝓤 H A (‵ (fobs γ (P.the-row .coded .code (r .next))) ∷ ‵ (fbor κ (Body (mem P.the-row) b o γ)) ∷ ‵ (flft κ q) ∷ ‵ (flft κ₂ q₂)
+      ∷ ‵ (flft κ₃ q₃) ∷ ‵ (finally T.the-row γ₃ zs) ∷ ‵ File ∷ []))
+      (Post (ans r))
   exits r zs e is e′ l =
-      qed W (‵ (fobs γ (P.the-row .coded .code (r .next))) ∷ ‵ (fbor κ (Body (mem P.the-row) b o γ)) ∷ ‵ (flft κ q) ∷ ‵ (flft κ₂ q₂) ∷ ‵ (flft κ₃ q₃) ∷ ‵ (finally T.the-row γ₃ zs) ∷ ‵ File ∷ []) ∵
+      qed W (‵ (fobs γ (P.the-row .coded .code (r .next))) ∷ ‵ (fbor κ (Body (mem P.the-row) b o γ)) ∷ ‵ (flft κ q) ∷ ‵ (flft κ₂ q₂) ∷ ‵ (flft κ₃ q₃) ∷ ‵ (finally T.the-row γ₃ zs) ∷ ‵ File ∷ [])
+      ∵
       suffices ! _ (ends-at 𝓤 H A f.ended stayed (f.clauses 𝓤 H A at-mem run) W (((κ, (κ₂, (κ₃, tt))), (q, (q₂, (q₃, tt))), tt, args, vals), tt) (ans r) (toldOf r) (r .next, (tt, (zs, tt))) (tt, (tt, (l, tt)))) $
       says ! (ap toldOf e ∙ told-is h bs ys, ap (λ (z : CallPlan). z .next) e ∙ state-is h bs ys, e′ ∙ ap (λ (z : CallPlan). storedCall bs h (z .count) ys) e ∙ run-is h bs ys) $
       nothing ! $ move ! (5 ∷ 0 ∷ []) $ join ! $ move ! (4 ∷ 0 ∷ []) $ join ! $ move ! (3 ∷ 0 ∷ []) $ join ! $ frame ! $ feqI ! (List Val) (vptr b o ∷ []) (vptr b o ∷ []) refl $ fjoin3 ! $
-      nothing ! $ move ! (2 ∷ 0 ∷ []) $ fjoin ! $ move ! (2 ∷ 0 ∷ []) $ fjoin ! $ move ! (1 ∷ 0 ∷ []) $ fjoin ! $ owned ! Y.the-row (Is Y.the-row) ((LL.makes Y.the-type Y′.the-plain) 𝓤 H A) (toldOf r) _ (ans-is r is) $ move ! (1 ∷ 0 ∷ []) $ done !
+      nothing ! $ move ! (2 ∷ 0 ∷ []) $ fjoin ! $ move ! (2 ∷ 0 ∷ []) $ fjoin ! $ move ! (1 ∷ 0 ∷ []) $ fjoin ! $
+      owned ! Y.the-row (Is Y.the-row) ((LL.makes Y.the-type Y′.the-plain) 𝓤 H A) (toldOf r) _ (ans-is r is) $ move ! (1 ∷ 0 ∷ []) $ done !
 
   -- what each callee's triple binds outside, and that the caller has what it asks
   abbrev to-plan : Plans 𝓤 H A at-mem run .Ghost
@@ -164,61 +171,95 @@ module _ {M : Type 1} (𝓤 : URA M) (H : Heap 𝓤) (A : Atoms 𝓤) (W : Given
 
   goes-plan : Is P.the-row h (LL.vals P.the-type P′.the-laws h) → ent 𝓤 (sep 𝓤 (A .lft κ₂ q₂) (sem 𝓤 H A File)) (Plans 𝓤 H A at-mem run .pre to-plan)
   goes-plan was =
-      qed W (‵ (flft κ₂ q₂) ∷ ‵ File ∷ []) ∵ nothing ! $ owned ! usize (Is usize) (uint-makes 𝓤 H A W w64) (length ys) _ (refl, room₃ .0) $ fjoin ! $ move ! (2 ∷ 0 ∷ []) $ fjoin ! $ owned ! P.the-row (Is P.the-row) ((LL.makes P.the-type P′.the-plain) 𝓤 H A) h _ was $ fjoin ! $ nothing ! $ move ! (2 ∷ 0 ∷ []) $ join ! $ nothing ! $ move ! (1 ∷ 2 ∷ 0 ∷ []) $ join ! $ join ! $ done !
+      qed W (‵ (flft κ₂ q₂) ∷ ‵ File ∷ []) ∵ nothing ! $ owned ! usize (Is usize) (uint-makes 𝓤 H A W w64) (length ys) _ (refl, room₃ .0) $ fjoin ! $
+      move ! (2 ∷ 0 ∷ []) $ fjoin ! $ owned ! P.the-row (Is P.the-row) ((LL.makes P.the-type P′.the-plain) 𝓤 H A) h _ was $ fjoin ! $ nothing ! $ move ! (2 ∷ 0 ∷ []) $ join ! $
+      nothing ! $ move ! (1 ∷ 2 ∷ 0 ∷ []) $ join ! $ join ! $ done !
 
   abbrev to-store : CallPlan → Stores 𝓤 H A at-mem run .Ghost
   to-store r = (((κ₃, (κ₂, tt)), (q₃, (q₂, tt)), tt, (x₃, (x₂, (h, (r .count, tt)))), (s₃ ∷ [], (s₂ ∷ [], (LL.vals P.the-type P′.the-laws h, (vint w64 (r .count) ∷ [], tt))))), tt)
 
-  goes-store : (r : CallPlan) → Is P.the-row h (LL.vals P.the-type P′.the-laws h) → Is S.the-row r (LL.vals S.the-type S′.the-laws r) → ent 𝓤 (sep 𝓤 (A .lft κ₃ q₃) (sep 𝓤 (A .lft κ₂ q₂) (sep 𝓤 (sem 𝓤 H A Run) (sem 𝓤 H A File)))) (Stores 𝓤 H A at-mem run .pre (to-store r))
+  goes-store : (r : CallPlan) → Is P.the-row h (LL.vals P.the-type P′.the-laws h) → Is S.the-row r (LL.vals S.the-type S′.the-laws r)
+      → ent 𝓤 (sep 𝓤 (A .lft κ₃ q₃) (sep 𝓤 (A .lft κ₂ q₂) (sep 𝓤 (sem 𝓤 H A Run) (sem 𝓤 H A File)))) (Stores 𝓤 H A at-mem run .pre (to-store r))
   goes-store r was is =
       qed W (‵ (flft κ₃ q₃) ∷ ‵ (flft κ₂ q₂) ∷ (‵ Run ⊛ ‵ File) ∷ []) ∵ move ! (2 ∷ []) $ split ! $
       -- [run; file; run's token; file's token]
-      nothing ! $ owned ! usize (Is usize) (uint-makes 𝓤 H A W w64) (r .count) _ (refl, LL.owed S.the-type S′.the-laws r _ is .1 .0 .1) $ fjoin ! $ owned ! P.the-row (Is P.the-row) ((LL.makes P.the-type P′.the-plain) 𝓤 H A) h _ was $ fjoin ! $ move ! (2 ∷ 0 ∷ []) $ fjoin ! $ move ! (1 ∷ 0 ∷ []) $ fjoin ! $
+      nothing ! $ owned ! usize (Is usize) (uint-makes 𝓤 H A W w64) (r .count) _ (refl, LL.owed S.the-type S′.the-laws r _ is .1 .0 .1) $ fjoin ! $
+      owned ! P.the-row (Is P.the-row) ((LL.makes P.the-type P′.the-plain) 𝓤 H A) h _ was $ fjoin ! $ move ! (2 ∷ 0 ∷ []) $ fjoin ! $ move ! (1 ∷ 0 ∷ []) $ fjoin ! $
       nothing ! $ move ! (3 ∷ 0 ∷ []) $ join ! $ move ! (2 ∷ 0 ∷ []) $ join ! $ nothing ! $ move ! (1 ∷ 2 ∷ 0 ∷ []) $ join ! $ join ! $ done !
 
-  module _ (C : Calls 𝓤 H) (Λ : Loops 𝓤 H) (fm : FmC 𝓤 H (W .laws) C) (known-plan : Triple 𝓤 (C #plan·plan-call) (Plans 𝓤 H A at-mem run)) (known-store : Triple 𝓤 (C #store·store-call) (Stores 𝓤 H A at-mem run)) where
+  module _ (C : Calls 𝓤 H) (Λ : Loops 𝓤 H) (fm : FmC 𝓤 H (W .laws) C) (known-plan : Triple 𝓤 (C #plan·plan-call) (Plans 𝓤 H A at-mem run))
+      (known-store : Triple 𝓤 (C #store·store-call) (Stores 𝓤 H A at-mem run)) where
     module _ (l₀ l₁ l₂ l₃ l₄ l₅ l₆ l₇ l₈ l₉ : ℕ) where
       abbrev En : Env 𝓤 H
       En = (Y′.mir, l₀) ∷ (ref, l₁) ∷ (bytes, l₂) ∷ (slice, l₃) ∷ (P′.mir, l₄) ∷ (S′.mir, l₅) ∷ (word, l₆) ∷ (tyUnit, l₇) ∷ (eref, l₈) ∷ (eslice, l₉) ∷ []
 
       abbrev Entered : List (Item 𝓤)
-      Entered = ‵ (cellAt fullShare (P.the-row .mir) (LL.vals P.the-type P′.the-laws h) b o) ∷ ‵ (fobor κ q (Body (mem P.the-row) b o γ)) ∷ ‵ (fobs γ (P.the-row .coded .code h)) ∷ ‵ (fauth γ (P.the-row .coded .code h)) ∷ ‵ (flft κ₂ q₂) ∷ ‵ (flft κ₃ q₃) ∷ ‵ Run ∷ ‵ File
-          ∷ ‵ (froom eslice l₉ 0) ∷ ‵ (fdies eslice l₉) ∷ ‵ (froom eref l₈ 0) ∷ ‵ (fdies eref l₈) ∷ ‵ (froom tyUnit l₇ 0) ∷ ‵ (fdies tyUnit l₇) ∷ ‵ (froom word l₆ 0) ∷ ‵ (fdies word l₆) ∷ ‵ (froom S′.mir l₅ 0) ∷ ‵ (fdies S′.mir l₅) ∷ ‵ (froom P′.mir l₄ 0) ∷ ‵ (fdies P′.mir l₄) ∷ ‵ (fat fullShare slice l₃ 0 (s₃)) ∷ ‵ (fdies slice l₃) ∷ ‵ (fat fullShare bytes l₂ 0 (s₂)) ∷ ‵ (fdies bytes l₂) ∷ ‵ (fat fullShare ref l₁ 0 (vptr b o)) ∷ ‵ (fdies ref l₁) ∷ ‵ (froom Y′.mir l₀ 0) ∷ ‵ (fdies Y′.mir l₀) ∷ []
+      Entered =
+          ‵ (cellAt fullShare (P.the-row .mir) (LL.vals P.the-type P′.the-laws h) b o) ∷ ‵ (fobor κ q (Body (mem P.the-row) b o γ)) ∷ ‵ (fobs γ (P.the-row .coded .code h))
+          ∷ ‵ (fauth γ (P.the-row .coded .code h)) ∷ ‵ (flft κ₂ q₂) ∷ ‵ (flft κ₃ q₃) ∷ ‵ Run ∷ ‵ File
+          ∷ ‵ (froom eslice l₉ 0) ∷ ‵ (fdies eslice l₉) ∷ ‵ (froom eref l₈ 0) ∷ ‵ (fdies eref l₈) ∷ ‵ (froom tyUnit l₇ 0) ∷ ‵ (fdies tyUnit l₇)
+          ∷ ‵ (froom word l₆ 0) ∷ ‵ (fdies word l₆) ∷ ‵ (froom S′.mir l₅ 0) ∷ ‵ (fdies S′.mir l₅) ∷ ‵ (froom P′.mir l₄ 0) ∷ ‵ (fdies P′.mir l₄)
+          ∷ ‵ (fat fullShare slice l₃ 0 (s₃)) ∷ ‵ (fdies slice l₃) ∷ ‵ (fat fullShare bytes l₂ 0 (s₂)) ∷ ‵ (fdies bytes l₂) ∷ ‵ (fat fullShare ref l₁ 0 (vptr b o))
+          ∷ ‵ (fdies ref l₁) ∷ ‵ (froom Y′.mir l₀ 0) ∷ ‵ (fdies Y′.mir l₀) ∷ []
 
       abbrev Got : CallPlan → List (Item 𝓤)
-      Got r = ‵ (cellAt fullShare (P.the-row .mir) (LL.vals P.the-type P′.the-laws h) b o) ∷ ‵ (fobor κ q (Body (mem P.the-row) b o γ)) ∷ ‵ (fobs γ (P.the-row .coded .code h)) ∷ ‵ (fauth γ (P.the-row .coded .code h)) ∷ ‵ (flft κ₂ q₂) ∷ ‵ (flft κ₃ q₃) ∷ ‵ Run ∷ ‵ File
-          ∷ ‵ (froom eslice l₉ 0) ∷ ‵ (fdies eslice l₉) ∷ ‵ (froom eref l₈ 0) ∷ ‵ (fdies eref l₈) ∷ ‵ (froom tyUnit l₇ 0) ∷ ‵ (fdies tyUnit l₇) ∷ ‵ (fat fullShare word l₆ 0 (vint w64 (length ys))) ∷ ‵ (fdies word l₆) ∷ ‵ (fat fullShare S′.mir l₅ 0 (LL.val S.the-type S′.the-laws r)) ∷ ‵ (fdies S′.mir l₅) ∷ ‵ (fat fullShare P′.mir l₄ 0 (LL.val P.the-type P′.the-laws h)) ∷ ‵ (fdies P′.mir l₄) ∷ ‵ (fat fullShare slice l₃ 0 (s₃)) ∷ ‵ (fdies slice l₃) ∷ ‵ (fat fullShare bytes l₂ 0 (s₂)) ∷ ‵ (fdies bytes l₂) ∷ ‵ (fat fullShare ref l₁ 0 (vptr b o)) ∷ ‵ (fdies ref l₁) ∷ ‵ (froom Y′.mir l₀ 0) ∷ ‵ (fdies Y′.mir l₀) ∷ []
+      Got r =
+          ‵ (cellAt fullShare (P.the-row .mir) (LL.vals P.the-type P′.the-laws h) b o) ∷ ‵ (fobor κ q (Body (mem P.the-row) b o γ)) ∷ ‵ (fobs γ (P.the-row .coded .code h))
+          ∷ ‵ (fauth γ (P.the-row .coded .code h)) ∷ ‵ (flft κ₂ q₂) ∷ ‵ (flft κ₃ q₃) ∷ ‵ Run ∷ ‵ File
+          ∷ ‵ (froom eslice l₉ 0) ∷ ‵ (fdies eslice l₉) ∷ ‵ (froom eref l₈ 0) ∷ ‵ (fdies eref l₈) ∷ ‵ (froom tyUnit l₇ 0) ∷ ‵ (fdies tyUnit l₇)
+          ∷ ‵ (fat fullShare word l₆ 0 (vint w64 (length ys))) ∷ ‵ (fdies word l₆) ∷ ‵ (fat fullShare S′.mir l₅ 0 (LL.val S.the-type S′.the-laws r))
+          ∷ ‵ (fdies S′.mir l₅) ∷ ‵ (fat fullShare P′.mir l₄ 0 (LL.val P.the-type P′.the-laws h)) ∷ ‵ (fdies P′.mir l₄) ∷ ‵ (fat fullShare slice l₃ 0 (s₃))
+          ∷ ‵ (fdies slice l₃) ∷ ‵ (fat fullShare bytes l₂ 0 (s₂)) ∷ ‵ (fdies bytes l₂) ∷ ‵ (fat fullShare ref l₁ 0 (vptr b o)) ∷ ‵ (fdies ref l₁)
+          ∷ ‵ (froom Y′.mir l₀ 0) ∷ ‵ (fdies Y′.mir l₀) ∷ []
 
       abbrev Stored : CallPlan → List WriteRecord → List (Item 𝓤)
-      Stored r zs = ‵ (cellAt fullShare (P.the-row .mir) (LL.vals P.the-type P′.the-laws h) b o) ∷ ‵ (fobor κ q (Body (mem P.the-row) b o γ)) ∷ ‵ (fobs γ (P.the-row .coded .code h)) ∷ ‵ (fauth γ (P.the-row .coded .code h)) ∷ ‵ (flft κ₂ q₂) ∷ ‵ (flft κ₃ q₃) ∷ ‵ (finally T.the-row γ₃ zs) ∷ ‵ File
-          ∷ ‵ (froom eslice l₉ 0) ∷ ‵ (fdies eslice l₉) ∷ ‵ (froom eref l₈ 0) ∷ ‵ (fdies eref l₈) ∷ ‵ (froom tyUnit l₇ 0) ∷ ‵ (fdies tyUnit l₇) ∷ ‵ (fat fullShare word l₆ 0 (vint w64 (length ys))) ∷ ‵ (fdies word l₆) ∷ ‵ (fat fullShare S′.mir l₅ 0 (LL.val S.the-type S′.the-laws r)) ∷ ‵ (fdies S′.mir l₅) ∷ ‵ (fat fullShare P′.mir l₄ 0 (LL.val P.the-type P′.the-laws h)) ∷ ‵ (fdies P′.mir l₄) ∷ ‵ (fat fullShare slice l₃ 0 (s₃)) ∷ ‵ (fdies slice l₃) ∷ ‵ (fat fullShare bytes l₂ 0 (s₂)) ∷ ‵ (fdies bytes l₂) ∷ ‵ (fat fullShare ref l₁ 0 (vptr b o)) ∷ ‵ (fdies ref l₁) ∷ ‵ (froom Y′.mir l₀ 0) ∷ ‵ (fdies Y′.mir l₀) ∷ []
+      Stored r zs =
+          ‵ (cellAt fullShare (P.the-row .mir) (LL.vals P.the-type P′.the-laws h) b o) ∷ ‵ (fobor κ q (Body (mem P.the-row) b o γ)) ∷ ‵ (fobs γ (P.the-row .coded .code h))
+          ∷ ‵ (fauth γ (P.the-row .coded .code h)) ∷ ‵ (flft κ₂ q₂) ∷ ‵ (flft κ₃ q₃) ∷ ‵ (finally T.the-row γ₃ zs) ∷ ‵ File
+          ∷ ‵ (froom eslice l₉ 0) ∷ ‵ (fdies eslice l₉) ∷ ‵ (froom eref l₈ 0) ∷ ‵ (fdies eref l₈) ∷ ‵ (froom tyUnit l₇ 0) ∷ ‵ (fdies tyUnit l₇)
+          ∷ ‵ (fat fullShare word l₆ 0 (vint w64 (length ys))) ∷ ‵ (fdies word l₆) ∷ ‵ (fat fullShare S′.mir l₅ 0 (LL.val S.the-type S′.the-laws r))
+          ∷ ‵ (fdies S′.mir l₅) ∷ ‵ (fat fullShare P′.mir l₄ 0 (LL.val P.the-type P′.the-laws h)) ∷ ‵ (fdies P′.mir l₄) ∷ ‵ (fat fullShare slice l₃ 0 (s₃))
+          ∷ ‵ (fdies slice l₃) ∷ ‵ (fat fullShare bytes l₂ 0 (s₂)) ∷ ‵ (fdies bytes l₂) ∷ ‵ (fat fullShare ref l₁ 0 (vptr b o)) ∷ ‵ (fdies ref l₁)
+          ∷ ‵ (froom Y′.mir l₀ 0) ∷ ‵ (fdies Y′.mir l₀) ∷ []
 
       -- the next state is stored, and the function returns
       ends : (r : CallPlan) (zs : List WriteRecord) → Planned r → Is S.the-row r (LL.vals S.the-type S′.the-laws r) → Wrote r zs → length zs ≡ length ys → Sq W (Stored r zs) (runs C Λ En code.Mir.t-7 (atRet En Post))
       ends r zs e is e′ l =
-          assigns ! (of-opd ! (load ! (from ! (fld ! refl (stop !))) (look-in ! 16 (sub ! 3 refl (whole !))))) (from ! (hop ! (look ! 24 refl) (stop !))) (store-raw ! 0 refl (LL.lawful P.the-type P′.the-laws 𝓤 H A W .typed (r .next) _ (LL.owed S.the-type S′.the-laws r _ is .1 .1 .1 .0) .0)) $
-          assigns ! (agg ! (and-then ! (load ! (from ! (fld ! refl (stop !))) (look-in ! 16 (sub ! 0 refl (whole !)))) (and-then ! (load ! (from ! (fld ! refl (stop !))) (look-in ! 16 (sub ! 1 refl (whole !)))) (and-then ! (load ! (from ! (fld ! refl (stop !))) (look-in ! 16 (sub ! 2 refl (whole !)))) (no-more !))))) (from ! (stop !)) (init ! 26 refl (LL.lawful Y.the-type Y′.the-laws 𝓤 H A W .typed (toldOf r) _ (ans-is r is) .0)) $
-          owned ! P.the-row (Is P.the-row) ((LL.makes P.the-type P′.the-plain) 𝓤 H A) (r .next) _ (LL.owed S.the-type S′.the-laws r _ is .1 .1 .1 .0) $ move ! (1 ∷ 0 ∷ []) $ closes ! tt P.the-row (r .next) (LL.vals P.the-type P′.the-laws (r .next)) b o $
+          assigns ! (of-opd ! (load ! (from ! (fld ! refl (stop !))) (look-in ! 16 (sub ! 3 refl (whole !))))) (from ! (hop ! (look ! 24 refl) (stop !)))
+          (store-raw ! 0 refl (LL.lawful P.the-type P′.the-laws 𝓤 H A W .typed (r .next) _ (LL.owed S.the-type S′.the-laws r _ is .1 .1 .1 .0) .0)) $
+          assigns ! (agg ! (and-then ! (load ! (from ! (fld ! refl (stop !))) (look-in ! 16 (sub ! 0 refl (whole !))))
+          (and-then ! (load ! (from ! (fld ! refl (stop !))) (look-in ! 16 (sub ! 1 refl (whole !)))) (and-then ! (load ! (from ! (fld ! refl (stop !))) (look-in ! 16 (sub ! 2 refl (whole !)))) (no-more !)))))
+          (from ! (stop !)) (init ! 26 refl (LL.lawful Y.the-type Y′.the-laws 𝓤 H A W .typed (toldOf r) _ (ans-is r is) .0)) $
+          owned ! P.the-row (Is P.the-row) ((LL.makes P.the-type P′.the-plain) 𝓤 H A) (r .next) _ (LL.owed S.the-type S′.the-laws r _ is .1 .1 .1 .0) $ move ! (1 ∷ 0 ∷ []) $
+          closes ! tt P.the-row (r .next) (LL.vals P.the-type P′.the-laws (r .next)) b o $
           returns ! (look ! 25 refl) $ forget ! 25 refl $ forget ! 23 refl $ forget ! 21 refl $ forget ! 19 refl $ forget ! 17 refl $ forget ! 15 refl $ forget ! 13 refl $
-          move ! (25 ∷ 26 ∷ []) $ free1 ! $ move ! (23 ∷ 24 ∷ []) $ free1 ! $ move ! (21 ∷ 22 ∷ []) $ free1 ! $ move ! (19 ∷ 20 ∷ []) $ free1 ! $ move ! (17 ∷ 18 ∷ []) $ free1 ! $ move ! (15 ∷ 16 ∷ []) $ free1 ! $ move ! (13 ∷ 14 ∷ []) $ free1 ! $ move ! (11 ∷ 12 ∷ []) $ free1 ! $ move ! (9 ∷ 10 ∷ []) $ free1 ! $ move ! (7 ∷ 8 ∷ []) $ free1 ! $ free0 ! $
+          move ! (25 ∷ 26 ∷ []) $ free1 ! $ move ! (23 ∷ 24 ∷ []) $ free1 ! $ move ! (21 ∷ 22 ∷ []) $ free1 ! $ move ! (19 ∷ 20 ∷ []) $ free1 ! $ move ! (17 ∷ 18 ∷ []) $
+          free1 ! $ move ! (15 ∷ 16 ∷ []) $ free1 ! $ move ! (13 ∷ 14 ∷ []) $ free1 ! $ move ! (11 ∷ 12 ∷ []) $ free1 ! $ move ! (9 ∷ 10 ∷ []) $ free1 ! $
+          move ! (7 ∷ 8 ∷ []) $ free1 ! $ free0 ! $
           by ! (exits r zs e is e′ l)
 
       -- the records are stored
       stores : (r : CallPlan) → Planned r → Is P.the-row h (LL.vals P.the-type P′.the-laws h) → Is S.the-row r (LL.vals S.the-type S′.the-laws r) → Sq W (Got r) (runs C Λ En code.Mir.t-4 (atRet En Post))
       stores r e was is =
           assigns ! (addr ! (from ! (fld ! refl (hop ! (look-in ! 20 (sub ! 0 refl (whole !))) (stop !))))) (from ! (stop !)) (init ! 10 refl (tt, tt)) $
-          assigns ! (agg ! (and-then ! (load ! (from ! (stop !)) (look ! 10 refl)) (and-then ! (load ! (from ! (fld ! refl (stop !))) (look-in ! 20 (sub ! 1 refl (whole !)))) (no-more !)))) (from ! (stop !)) (init ! 8 refl (tt, (tt, (record { fits = room₃ .0 }, tt)))) $
+          assigns ! (agg ! (and-then ! (load ! (from ! (stop !)) (look ! 10 refl)) (and-then ! (load ! (from ! (fld ! refl (stop !))) (look-in ! 20 (sub ! 1 refl (whole !)))) (no-more !))))
+          (from ! (stop !)) (init ! 8 refl (tt, (tt, (record { fits = room₃ .0 }, tt)))) $
           move ! (7 ∷ []) $ use1 W (‵ File ⊛ ‵ File) (shr-slice-copy 𝓤 H A W (named 1) κ₂ u8 .twice x₂ (s₂ ∷ [])) $ split ! $ move ! (8 ∷ 0 ∷ []) $ join ! $ move ! (7 ∷ 6 ∷ 0 ∷ []) $
           use3 W (raw (Stores 𝓤 H A at-mem run .pre (to-store r))) (goes-store r was is) $
           -- [the callee's need; file; the state's cell; the open borrow; obs; auth; the locals]
-          calls-at ! fm (Stores 𝓤 H A at-mem run) known-store (to-store r) (and-then ! (load ! (from ! (stop !)) (look ! 6 refl)) (and-then ! (load ! (from ! (stop !)) (look ! 20 refl)) (and-then ! (load ! (from ! (stop !)) (look ! 16 refl)) (and-then ! (load ! (from ! (fld ! refl (stop !))) (look-in ! 14 (sub ! 1 refl (whole !)))) (no-more !))))) (λ v.
-          use1 W (later (some (λ (z : Unit {0}). ((‵ (flft κ₃ q₃) ⊛ ‵ (flft κ₂ q₂) ⊛ ‵ ftrue) ⊛ ‵ (Nothing .own z (v ∷ []))) ⊛ raw (ensured 𝓤 H A sc.ended (sc.clauses 𝓤 H A at-mem run) (κ₃, (κ₂, tt)) (to-store r .0 .3) tt z)))) (id⊢ 𝓤 _) $ await ! tt $ pick ! (λ z.
-          split ! $ move ! (1 ∷ []) $ use1 W (some (λ (zs : Lasts sc.ended (κ₃, (κ₂, tt)) (to-store r .0 .3)). ‵ (lasts sc.ended (κ₃, (κ₂, tt)) (to-store r .0 .3) zs) ⊛ raw (fact 𝓤 (Wrote r (zs .0))))) (id⊢ 𝓤 _) $ pick ! (λ zs.
+          calls-at ! fm (Stores 𝓤 H A at-mem run) known-store (to-store r)
+          (and-then ! (load ! (from ! (stop !)) (look ! 6 refl))
+          (and-then ! (load ! (from ! (stop !)) (look ! 20 refl)) (and-then ! (load ! (from ! (stop !)) (look ! 16 refl)) (and-then ! (load ! (from ! (fld ! refl (stop !))) (look-in ! 14 (sub ! 1 refl (whole !)))) (no-more !))))) (λ v.
+          use1 W (later (some (λ (z : Unit {0}). ((‵ (flft κ₃ q₃) ⊛ ‵ (flft κ₂ q₂) ⊛ ‵ ftrue) ⊛ ‵ (Nothing .own z (v ∷ [])))
+          ⊛ raw (ensured 𝓤 H A sc.ended (sc.clauses 𝓤 H A at-mem run) (κ₃, (κ₂, tt)) (to-store r .0 .3) tt z)))) (id⊢ 𝓤 _) $ await ! tt $ pick ! (λ z.
+          split ! $ move ! (1 ∷ []) $ use1 W (some (λ (zs : Lasts sc.ended (κ₃, (κ₂, tt)) (to-store r .0 .3)). ‵ (lasts sc.ended (κ₃, (κ₂, tt)) (to-store r .0 .3) zs)
+          ⊛ raw (fact 𝓤 (Wrote r (zs .0))))) (id⊢ 𝓤 _) $ pick ! (λ zs.
           split ! $ move ! (1 ∷ []) $ heard ! (Wrote r (zs .0)) (λ e′. fsplit ! $ fsplit ! $ move ! (1 ∷ []) $ feqL ! (λ l.
           -- [what says the last list; the rest of that; the tokens and the result; file; the state's four; the locals]
           move ! (2 ∷ []) $ split ! $ move ! (1 ∷ []) $ peeks ! Nothing (Is Nothing) (shows 𝓤 H A Nothing) z (v ∷ []) (λ is₂. drop ! $
           land ! (from ! (stop !)) (init ! 12 refl (nothing-lawful 𝓤 H A W .typed z _ is₂ .0)) $ forget ! 12 refl $ forget ! 10 refl $ forget ! 8 refl $
-          split ! $ move ! (1 ∷ []) $ split ! $ keep ! (6 ∷ 7 ∷ 8 ∷ 9 ∷ 0 ∷ 2 ∷ 3 ∷ 5 ∷ 10 ∷ 11 ∷ 12 ∷ 13 ∷ 14 ∷ 15 ∷ 16 ∷ 17 ∷ 18 ∷ 19 ∷ 20 ∷ 21 ∷ 22 ∷ 23 ∷ 24 ∷ 25 ∷ 26 ∷ 27 ∷ 28 ∷ 29 ∷ []) $
+          split ! $ move ! (1 ∷ []) $ split ! $
+          keep ! (6 ∷ 7 ∷ 8 ∷ 9 ∷ 0 ∷ 2 ∷ 3 ∷ 5 ∷ 10 ∷ 11 ∷ 12 ∷ 13 ∷ 14 ∷ 15 ∷ 16 ∷ 17 ∷ 18 ∷ 19 ∷ 20 ∷ 21 ∷ 22 ∷ 23 ∷ 24 ∷ 25 ∷ 26 ∷ 27 ∷ 28 ∷ 29 ∷ []) $
           ends r (zs .0) e is e′ l))))))
 
       -- the state is read, and the covered core is called
@@ -228,17 +269,22 @@ module _ {M : Type 1} (𝓤 : URA M) (H : Heap 𝓤) (A : Atoms 𝓤) (W : Given
           assigns ! (of-opd ! (load ! (from ! (fld ! refl (stop !))) (look-in ! 20 (sub ! 1 refl (whole !))))) (from ! (stop !)) (init ! 14 refl (tt, record { fits = room₃ .0 })) $
           move ! (7 ∷ []) $ use1 W (‵ File ⊛ ‵ File) (shr-slice-copy 𝓤 H A W (named 1) κ₂ u8 .twice x₂ (s₂ ∷ [])) $ split ! $ move ! (6 ∷ 0 ∷ []) $
           use2 W (raw (Plans 𝓤 H A at-mem run .pre to-plan)) (goes-plan was) $
-          calls-at ! fm (Plans 𝓤 H A at-mem run) known-plan to-plan (and-then ! (load ! (from ! (stop !)) (look ! 18 refl)) (and-then ! (load ! (from ! (stop !)) (look ! 22 refl)) (and-then ! (load ! (from ! (stop !)) (look ! 14 refl)) (no-more !)))) (λ v.
-          use1 W (later (some (λ (r : CallPlan). ((‵ (flft κ₂ q₂) ⊛ ‵ ftrue) ⊛ ‵ (S.the-row .own r (v ∷ []))) ⊛ raw (ensured 𝓤 H A pc.ended (pc.clauses 𝓤 H A at-mem run) (κ₂, tt) (h, (x₂, (length ys, tt))) tt r)))) (id⊢ 𝓤 _) $ await ! tt $ pick ! (λ r.
+          calls-at ! fm (Plans 𝓤 H A at-mem run) known-plan to-plan
+          (and-then ! (load ! (from ! (stop !)) (look ! 18 refl)) (and-then ! (load ! (from ! (stop !)) (look ! 22 refl)) (and-then ! (load ! (from ! (stop !)) (look ! 14 refl)) (no-more !)))) (λ v.
+          use1 W (later (some (λ (r : CallPlan). ((‵ (flft κ₂ q₂) ⊛ ‵ ftrue) ⊛ ‵ (S.the-row .own r (v ∷ [])))
+          ⊛ raw (ensured 𝓤 H A pc.ended (pc.clauses 𝓤 H A at-mem run) (κ₂, tt) (h, (x₂, (length ys, tt))) tt r)))) (id⊢ 𝓤 _) $ await ! tt $ pick ! (λ r.
           split ! $ move ! (1 ∷ []) $ use1 W (raw (fact 𝓤 (Planned r))) (said 𝓤 H A at-mem run κ₂ h x₂ (length ys) r) $ heard ! (Planned r) (λ e. split ! $ move ! (1 ∷ []) $
           peeks ! S.the-row (Is S.the-row) (shows 𝓤 H A S.the-row) r (v ∷ []) (λ is. drop ! $
-          land ! (from ! (stop !)) (init ! 16 refl (LL.lawful S.the-type S′.the-laws 𝓤 H A W .typed r _ is .0)) $ rewrite ! 16 (λ (u : Val). ‵ (fat fullShare S′.mir l₅ 0 u)) (ap only (LL.tells S.the-type S′.the-laws r _ is)) refl $
+          land ! (from ! (stop !)) (init ! 16 refl (LL.lawful S.the-type S′.the-laws 𝓤 H A W .typed r _ is .0)) $
+          rewrite ! 16 (λ (u : Val). ‵ (fat fullShare S′.mir l₅ 0 u)) (ap only (LL.tells S.the-type S′.the-laws r _ is)) refl $
           split ! $ keep ! (3 ∷ 4 ∷ 5 ∷ 6 ∷ 0 ∷ 7 ∷ 8 ∷ 2 ∷ 9 ∷ 10 ∷ 11 ∷ 12 ∷ 13 ∷ 14 ∷ 15 ∷ 16 ∷ 17 ∷ 18 ∷ 19 ∷ 20 ∷ 21 ∷ 22 ∷ 23 ∷ 24 ∷ 25 ∷ 26 ∷ 27 ∷ 28 ∷ []) $
           stores r e was (subst (Is S.the-row r) (LL.tells S.the-type S′.the-laws r _ is) is)))))
 
     walk : ent 𝓤 (onEntry 𝓤 H A f.signature (κ, (κ₂, (κ₃, tt))) (q, (q₂, (q₃, tt))) args vals) (WpFn 𝓤 H C Λ code.function (vptr b o ∷ s₂ ∷ s₃ ∷ []) Post)
     walk =
-        qed W ((‵ (flft κ q) ⊛ ‵ (flft κ₂ q₂) ⊛ ‵ (flft κ₃ q₃) ⊛ ‵ ftrue) ∷ ‵ (owns (MutRef (named 0) κ P.the-row ∷ ShrSlice (named 1) κ₂ u8 ∷ MutSlice (named 2) κ₃ T.the-row ∷ []) args vals) ∷ []) ∵ enter ! C Λ code.function (vptr b o ∷ s₂ ∷ s₃ ∷ []) _ $
+        qed W ((‵ (flft κ q) ⊛ ‵ (flft κ₂ q₂) ⊛ ‵ (flft κ₃ q₃) ⊛ ‵ ftrue)
+        ∷ ‵ (owns (MutRef (named 0) κ P.the-row ∷ ShrSlice (named 1) κ₂ u8 ∷ MutSlice (named 2) κ₃ T.the-row ∷ []) args vals) ∷ [])
+        ∵ enter ! C Λ code.function (vptr b o ∷ s₂ ∷ s₃ ∷ []) _ $
         alloc1 ! (λ l₀. alloc1 ! (λ l₁. alloc1 ! (λ l₂. alloc1 ! (λ l₃. alloc1 ! (λ l₄. alloc1 ! (λ l₅. alloc1 ! (λ l₆. alloc1 ! (λ l₇. alloc1 ! (λ l₈. alloc1 ! (λ l₉. alloc0 ! $ params1 ! $
         pass1 ! (init ! 16 refl (tt, tt)) $ pass1 ! (init ! 14 refl (tt, (tt, (record { fits = room₂ .0 }, tt)))) $ pass1 ! (init ! 12 refl (tt, (tt, (record { fits = room₃ .0 }, tt)))) $ pass0 ! $
         -- [the locals; the tokens; what the parameters own]
@@ -250,22 +296,26 @@ module _ {M : Type 1} (𝓤 : URA M) (H : Heap 𝓤) (A : Atoms 𝓤) (W : Given
         plans l₀ l₁ l₂ l₃ l₄ l₅ l₆ l₇ l₈ l₉ was))))))))))))
 
 module _ {M : Type 1} (𝓤 : URA M) (H : Heap 𝓤) (A : Atoms 𝓤) (W : Given 𝓤 H A) (at-mem : Memory → SProp 𝓤) (run : Routine → Fun 𝓤) where
-  planned-vsync-walks : (C : Calls 𝓤 H) (Λ : Loops 𝓤 H) → FmC 𝓤 H (W .laws) C → Triple 𝓤 (C #plan·plan-call) (Plans 𝓤 H A at-mem run) → Triple 𝓤 (C #store·store-call) (Stores 𝓤 H A at-mem run) → Walks 𝓤 H A f.ended stayed (WpFn 𝓤 H C Λ code.function) (f.clauses 𝓤 H A at-mem run)
+  planned-vsync-walks : (C : Calls 𝓤 H) (Λ : Loops 𝓤 H) → FmC 𝓤 H (W .laws) C → Triple 𝓤 (C #plan·plan-call) (Plans 𝓤 H A at-mem run)
+      → Triple 𝓤 (C #store·store-call) (Stores 𝓤 H A at-mem run) → Walks 𝓤 H A f.ended stayed (WpFn 𝓤 H C Λ code.function) (f.clauses 𝓤 H A at-mem run)
   planned-vsync-walks C Λ fm known-plan known-store = walked 𝓤 H A f.ended stayed (f.clauses 𝓤 H A at-mem run) (WpFn 𝓤 H C Λ code.function) (λ κs. (ptr-vals, (slice-vals, (slice-vals, tt))))
       (λ κs. (mut-tells (named 0) (κs .0) P.the-row, (shr-slice-tells (named 1) (κs .1 .0) u8, (mut-slice-tells (named 2) (κs .1 .1 .0) T.the-row, tt))))
-      (λ κs qs bounds a _ are. via 𝓤 _ (fst∗ 𝓤 _ (emp 𝓤)) (walk 𝓤 H A W at-mem run (κs .0) (κs .1 .0) (κs .1 .1 .0) (qs .0) (qs .1 .0) (qs .1 .1 .0) (a .0 .ptr .0) (a .0 .ptr .1) (a .1 .0 .ptr .0) (a .1 .0 .ptr .1) (a .1 .1 .0 .ptr .0) (a .1 .1 .0 .ptr .1)
+      (λ κs qs bounds a _ are. via 𝓤 _ (fst∗ 𝓤 _ (emp 𝓤))
+      (walk 𝓤 H A W at-mem run (κs .0) (κs .1 .0) (κs .1 .1 .0) (qs .0) (qs .1 .0) (qs .1 .1 .0) (a .0 .ptr .0) (a .0 .ptr .1) (a .1 .0 .ptr .0) (a .1 .0 .ptr .1) (a .1 .1 .0 .ptr .0) (a .1 .1 .0 .ptr .1)
       (a .0 .name) (a .1 .0 .name) (a .1 .1 .0 .name) (a .0 .now) (a .1 .0 .now) (a .1 .1 .0 .now) (are .1 .0 .0 .1) (are .1 .1 .0 .0 .1) C Λ fm known-plan known-store))
 
-planned-vsync-meets : {M : Type 1} (𝓤 : URA M) (H : Heap 𝓤) (A : Atoms 𝓤) → Given 𝓤 H A → (at-mem : Memory → SProp 𝓤) (run : Routine → Fun 𝓤) (𝓣 : Tables 𝓤 H) → Triple 𝓤 (𝓣 .C #plan·plan-call) (Plans 𝓤 H A at-mem run) → Triple 𝓤 (𝓣 .C #store·store-call) (Stores 𝓤 H A at-mem run)
+planned-vsync-meets : {M : Type 1} (𝓤 : URA M) (H : Heap 𝓤) (A : Atoms 𝓤) → Given 𝓤 H A → (at-mem : Memory → SProp 𝓤) (run : Routine → Fun 𝓤) (𝓣 : Tables 𝓤 H)
+    → Triple 𝓤 (𝓣 .C #plan·plan-call) (Plans 𝓤 H A at-mem run) → Triple 𝓤 (𝓣 .C #store·store-call) (Stores 𝓤 H A at-mem run)
     → Meets 𝓤 H A f.signature (WpFn 𝓤 H (𝓣 .C) (𝓣 .Λ) code.function) (f.spec 𝓤 H A at-mem run)
 planned-vsync-meets 𝓤 H A W at-mem run 𝓣 known-plan known-store =
-    walk-meets 𝓤 H A f.ended stayed W (goes-ref 𝓤 H A W 3 0 tt (plain (λ _. P.the-row)), (goes-none-slice 𝓤 H A W 3 (1 ∷ []) tt (plain (λ _. u8)) yes, (goes-gave-slice 𝓤 H A W 3 2 tt (plain (λ _. T.the-row)), tt))) (f.clauses 𝓤 H A at-mem run)
+    walk-meets 𝓤 H A f.ended stayed W
+    (goes-ref 𝓤 H A W 3 0 tt (plain (λ _. P.the-row)), (goes-none-slice 𝓤 H A W 3 (1 ∷ []) tt (plain (λ _. u8)) yes, (goes-gave-slice 𝓤 H A W 3 2 tt (plain (λ _. T.the-row)), tt)))
+    (f.clauses 𝓤 H A at-mem run)
     (WpFn 𝓤 H (𝓣 .C) (𝓣 .Λ) code.function) (WpFn-mono 𝓤 H (W .laws) 𝓣 code.function) (planned-vsync-walks 𝓤 H A W at-mem run (𝓣 .C) (𝓣 .Λ) (fmOf 𝓤 H (W .laws) 𝓣) known-plan known-store)
 
 pub planned-vsync-spec : {M : Type 1} → stated.statement M
 unfolding code.routine tablesOf
-planned-vsync-spec 𝓤 H 𝓜 𝓖 𝓡 =
-    entered 𝓤 H (tripleOf 𝓤 H (𝓖 .A) f.signature (f.spec 𝓤 H (𝓖 .A) (𝓜 .mem) (𝓡 .run)))
+planned-vsync-spec 𝓤 H 𝓜 𝓖 𝓡 = entered 𝓤 H (tripleOf 𝓤 H (𝓖 .A) f.signature (f.spec 𝓤 H (𝓖 .A) (𝓜 .mem) (𝓡 .run)))
     (tables 𝓤 H 𝓜 𝓡 code.env .C) (tables 𝓤 H 𝓜 𝓡 code.env .Λ) #player·planned-vsync code.function (code.unfolded 𝓤 H 𝓜 𝓡)
     (planned-vsync-meets 𝓤 H (𝓖 .A) (givenOf 𝓤 H 𝓜 𝓖) (𝓜 .mem) (𝓡 .run) (tablesOf 𝓤 H 𝓜 (tables 𝓤 H 𝓜 𝓡 code.env))
     (cited 𝓤 H (Plans 𝓤 H (𝓖 .A) (𝓜 .mem) (𝓡 .run)) 𝓜 𝓡 code.env #plan·plan-call pc-def.routine code.calls-plan·plan-call (pc-thm.met 𝓤 H 𝓜 𝓖 𝓡))

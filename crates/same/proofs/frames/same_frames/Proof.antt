@@ -1,9 +1,11 @@
--- `same::frames::same_frames` meets its contract. Assumes nothing.
+-- `same::frames::same_frames` meets its contract. The loop's invariant: all frames agree exactly where those that are left do, and their
+-- places are small: a frame has at most 65,535 records of 5 bytes, or operations of 16. The measure is the frames that are left.
 use borrow.Author.Needs.{needs}
 use native.Mathlib.Omega.{arith}
-use Prim.Native.Nat.{_+_, _-_, _*_, _≤_}
+use Prim.Native.Nat.{_+_, _*_, _≤_}
 use mathlib.Core.Bool.{true}
 use mathlib.Core.Path.{_≡_, refl, sym, _∙_}
+use Rattle.format.specs.Size.{recordSize, countSize}
 use Rattle.same.specs.Match.{sameFramesAt}
 use Rattle.spans.proofs.Near.{stop-near}
 use Rattle.same.proofs.Match.{part-same, part-differs, frames-step, frames-end}
@@ -13,7 +15,7 @@ use Rattle.same.proofs.frames.same_frames.Tie as tie
 abbrev Inv-loop : tie.InvT-loop
 Inv-loop master start other directory «other_start» frames at₀ from₀ left₀ at from left =
     (at + left * 327677 ≤ 0x10000000000000)
-    × (from + left * 983027 ≤ 0x10000000000000)
+    × (from + left * 1048562 ≤ 0x10000000000000)
     × (sameFramesAt master other directory frames start «other_start» ≡ sameFramesAt master other directory left at from)
 
 abbrev μ-loop : tie.MeasureT-loop
@@ -25,22 +27,31 @@ loop-holds c = (omega arith, omega arith, refl)
 
 returns : tie.Need-returns Inv-loop μ-loop
 returns c =
-    let n = c .before .before .before in
+    let compared = c .before .before in
+    let n = compared .before in
     let m = n .before in
     let l = m .before .before .loop in
     let a = m .before .before .before .before .before .args in
-    let differs = part-differs true (a .master .now) (a .other .now) (a .directory) (m .read-u16 .result) (l .at + 2) (n .read-u162 .result) (l .from + 2) (sym (c .before .before .same-part .ensures) ∙ c .enum-told .given .1) in
-    rw (l .inv .2, frames-step (a .master .now) (a .other .now) (a .directory) (l .left) (l .at) (l .from) (m .before .loop-test .taken), ← (m .read-u16 .ensures), ← (n .read-u162 .ensures), differs)
+    let told = sym (compared .same-part .ensures) ∙ c .enum-told .given .1 in
+    let differs = part-differs true (a .master .now) (a .other .now) (a .directory) (m .read-u16 .result) (l .at + countSize) (n .read-u162 .result) (l .from + countSize) told in
+    let step = frames-step (a .master .now) (a .other .now) (a .directory) (l .left) (l .at) (l .from) (m .before .loop-test .taken) in
+    rw (l .inv .2, step, ← (m .read-u16 .ensures), ← (n .read-u162 .ensures), differs)
 
 loop-again : tie.Need-loop-again Inv-loop μ-loop
 loop-again c =
-    let n = c .before .before .before .before in
+    let compared = c .before .before .before in
+    let n = compared .before in
     let m = n .before in
     let l = m .before .before .loop in
     let a = m .before .before .before .before .before .args in
-    let same = part-same true (a .master .now) (a .other .now) (a .directory) (m .read-u16 .result) (l .at + 2) (n .read-u162 .result) (l .from + 2) _ (sym (c .before .before .before .same-part .ensures) ∙ c .before .next .given .1) in
-    let place : l .at + (2 + m .read-u16 .result * 5) ≡ l .at + 2 + m .read-u16 .result * 5 = omega arith in
-    (omega arith, omega (arith, same .1, stop-near (a .other .now) (a .directory) (n .read-u162 .result) (l .from + 2)), rw (place, same .1) (l .inv .2 ∙ frames-step (a .master .now) (a .other .now) (a .directory) (l .left) (l .at) (l .from) (m .before .loop-test .taken) ∙ rw (← (m .read-u16 .ensures), ← (n .read-u162 .ensures), same .0)))
+    let told = sym (compared .same-part .ensures) ∙ c .before .next .given .1 in
+    let same = part-same true (a .master .now) (a .other .now) (a .directory) (m .read-u16 .result) (l .at + countSize) (n .read-u162 .result) (l .from + countSize) _ told in
+    let place : l .at + (countSize + m .read-u16 .result * recordSize) ≡ l .at + countSize + m .read-u16 .result * recordSize = omega arith in
+    let step = frames-step (a .master .now) (a .other .now) (a .directory) (l .left) (l .at) (l .from) (m .before .loop-test .taken) in (
+      omega arith,
+      omega (arith, same .1, stop-near (a .other .now) (a .directory) (n .read-u162 .result) (l .from + countSize)),
+      rw (place, same .1) (l .inv .2 ∙ step ∙ rw (← (m .read-u16 .ensures), ← (n .read-u162 .ensures), same .0)),
+    )
 
 returns-2 : tie.Need-returns-2 Inv-loop μ-loop
 returns-2 c =
@@ -52,4 +63,6 @@ returns-2 c =
 pub same-frames-spec : {M : Type 1} → statement M
 same-frames-spec =
     tie.close
-    (tie.spec Inv-loop μ-loop loop-holds (λ c κs. search needs) (λ c κs. search needs) (λ c. search needs) (λ c. search needs) (λ c. search needs) (λ c. search needs) (λ c κs. search needs) (λ c. search needs) (λ c. search needs) returns (λ c. search needs) (λ c. search needs) (λ c. search needs) (λ c. search needs) (λ c. search needs) (λ c. search needs) loop-again returns-2)
+    (tie.spec Inv-loop μ-loop loop-holds (λ c κs. search needs) (λ c κs. search needs) (λ c. search needs) (λ c. search needs) (λ c. search needs) (λ c. search needs) (λ c κs. search needs)
+    (λ c. search needs) (λ c. search needs) returns (λ c. search needs) (λ c. search needs) (λ c. search needs) (λ c. search needs) (λ c. search needs) (λ c. search needs) loop-again
+    returns-2)

@@ -1,19 +1,23 @@
--- `same::part::none_kept` meets its contract. Assumes nothing.
+-- `same::part::none_kept` meets its contract. The loop's invariant: none of all records counts exactly where none of those that are left
+-- does, and their places are small. The measure is the records that are left.
 use borrow.Author.Needs.{needs}
 use Prim.Native.Nat.{_+_, _*_, _≤_}
 use mathlib.Core.List.{[]}
 use mathlib.Core.Path.{_≡_, refl}
 use native.Mathlib.Omega.{arith}
 use Rattle.format.specs.Compare.{sameWrites}
+use Rattle.format.specs.Size.{recordSize}
 use Rattle.spans.specs.Segments.{recordWrites}
 use Rattle.same.specs.Match.{kept}
 use Rattle.same.proofs.Match.{none-step, none-end}
+use Rattle.same.proofs.Records.{counts}
 use Rattle.same.proofs.part.none_kept.Statement.{statement}
 use Rattle.same.proofs.part.none_kept.Tie as tie
 
 abbrev Inv-loop : tie.InvT-loop
 Inv-loop master start records all at₀ left₀ at left =
-    (at + left * 5 ≤ 0x2000000500000000) × (sameWrites (kept all (recordWrites master records start)) [] ≡ sameWrites (kept all (recordWrites master left at)) [])
+    (at + left * recordSize ≤ 0x2000000500000000)
+    × (sameWrites (kept all (recordWrites master records start)) [] ≡ sameWrites (kept all (recordWrites master left at)) [])
 
 abbrev μ-loop : tie.MeasureT-loop
 μ-loop master start records all at₀ left₀ at left = left
@@ -23,15 +27,21 @@ loop-holds c = (omega arith, refl)
 
 returns : tie.Need-returns Inv-loop μ-loop
 returns c =
-    let l = c .before .before .before .before .loop in
-    let a = c .before .before .before .before .before .before .args in
-    rw (l .inv .1, none-step (a .all) (a .master .now) (l .left) (l .at) (c .before .before .before .loop-test .taken), ← (c .before .before .byte-at .ensures), ← (c .before .is-kept .ensures), c .if1 .taken)
+    let item = c .before .before in
+    let test = item .before .before in
+    let l = test .before .loop in
+    let a = test .before .before .before .args in
+    let here = counts (a .master .now) (l .at) _ _ (item .before .item-bytes .ensures) (item .decode-record .ensures) (a .all) (c .before .is-kept .ensures) (c .if1 .taken) in
+    rw (l .inv .1, none-step (a .all) (a .master .now) (l .left) (l .at) (test .loop-test .taken), here)
 
 loop-again : tie.Need-loop-again Inv-loop μ-loop
 loop-again c =
-    let l = c .before .before .before .before .loop in
-    let a = c .before .before .before .before .before .before .args in
-    (omega arith, rw (l .inv .1, none-step (a .all) (a .master .now) (l .left) (l .at) (c .before .before .before .loop-test .taken), ← (c .before .before .byte-at .ensures), ← (c .before .is-kept .ensures), c .if1 .left))
+    let item = c .before .before in
+    let test = item .before .before in
+    let l = test .before .loop in
+    let a = test .before .before .before .args in
+    let here = counts (a .master .now) (l .at) _ _ (item .before .item-bytes .ensures) (item .decode-record .ensures) (a .all) (c .before .is-kept .ensures) (c .if1 .left) in
+    (omega arith, rw (l .inv .1, none-step (a .all) (a .master .now) (l .left) (l .at) (test .loop-test .taken), here))
 
 returns-2 : tie.Need-returns-2 Inv-loop μ-loop
 returns-2 c =
@@ -43,4 +53,5 @@ returns-2 c =
 pub none-kept-spec : {M : Type 1} → statement M
 none-kept-spec =
     tie.close
-    (tie.spec Inv-loop μ-loop loop-holds (λ c κs. search needs) (λ c κs. search needs) returns (λ c. search needs) (λ c. search needs) (λ c. search needs) loop-again returns-2)
+    (tie.spec Inv-loop μ-loop loop-holds (λ c κs. search needs) (λ c κs. search needs) (λ c κs. search needs) returns (λ c. search needs) (λ c. search needs) (λ c. search needs) loop-again
+    returns-2)

@@ -1,8 +1,10 @@
--- `same::part::same_part` meets its contract. Assumes nothing.
+-- `same::part::same_part` meets its contract. The loop's invariant: the match of all is the match of the records and operations that are
+-- left, and their places are small. The measure is the operations that are left.
 use borrow.Author.Needs.{needs}
 use native.Mathlib.Omega.{arith}
-use Prim.Native.Nat.{_+_, _-_, _*_, _≤_}
+use Prim.Native.Nat.{_+_, _*_, _≤_}
 use mathlib.Core.Path.{_≡_, refl, sym, ap, _∙_}
+use Rattle.format.specs.Size.{recordSize, operationMost}
 use Rattle.spans.specs.declared.Segment.{Segment}
 use Rattle.same.specs.Match.{matchedPart}
 use Rattle.spans.proofs.Near.{next-near}
@@ -12,8 +14,8 @@ use Rattle.same.proofs.part.same_part.Tie as tie
 
 abbrev Inv-loop : tie.InvT-loop
 Inv-loop master start records all other directory «other_start» operations at₀ left₀ from₀ count₀ at left from count =
-    (at + left * 5 ≤ 0x800000500000000)
-    × (from + count * 15 ≤ 0x800000F00000000)
+    (at + left * recordSize ≤ 0x800000500000000)
+    × (from + count * operationMost ≤ 0x800001000000000)
     × (matchedPart all master other directory records start operations «other_start» ≡ matchedPart all master other directory left at count from)
 
 abbrev μ-loop : tie.MeasureT-loop
@@ -28,36 +30,47 @@ same-operation-requires c κs = (omega arith, c .segment-at .ensures .1)
 
 returns : tie.Need-returns Inv-loop μ-loop
 returns c =
-    let l = c .before .before .before .before .before .loop in
-    let a = c .before .before .before .before .before .before .before .before .args in
-    let s = c .before .before .before in
-    rw (l .inv .2, part-step (a .all) (a .master .now) (a .other .now) (a .directory) (l .left) (l .at) (l .count) (l .from) (s .before .loop-test .taken), ← (s .segment-at .ensures .0), ← (c .before .before .same-operation .ensures), c .enum-told .given .1)
+    let operation = c .before .before in
+    let s = operation .before in
+    let l = s .before .before .loop in
+    let a = s .before .before .before .before .before .args in
+    let step = part-step (a .all) (a .master .now) (a .other .now) (a .directory) (l .left) (l .at) (l .count) (l .from) (s .before .loop-test .taken) in
+    rw (l .inv .2, step, ← (s .segment-at .ensures .0), ← (operation .same-operation .ensures), c .enum-told .given .1)
 
 loop-again : tie.Need-loop-again Inv-loop μ-loop
 loop-again c =
-    let l = c .before .before .before .before .before .before .loop in
-    let a = c .before .before .before .before .before .before .before .before .before .args in
-    let s = c .before .before .before .before in
-    let e = sym (c .before .before .before .same-operation .ensures) ∙ c .before .behind .given .1 in
+    let behind = c .before in
+    let operation = behind .before .before in
+    let s = operation .before in
+    let l = s .before .before .loop in
+    let a = s .before .before .before .before .before .args in
+    let e = sym (operation .same-operation .ensures) ∙ behind .behind .given .1 in
     let place = operation-place (a .all) (a .master .now) (a .other .now) (s .segment-at .result) (l .left) (l .at) _ _ e in
     let near = ap (λ (x : Segment). x .next) (s .segment-at .ensures .0) in
-    (omega (arith, place), omega (arith, near, next-near (a .other .now) (a .directory) (l .from)), l .inv .2 ∙ part-step (a .all) (a .master .now) (a .other .now) (a .directory) (l .left) (l .at) (l .count) (l .from) (s .before .loop-test .taken) ∙ rw (← (s .segment-at .ensures .0), ← (c .before .before .before .same-operation .ensures), c .before .behind .given .1))
+    let step = part-step (a .all) (a .master .now) (a .other .now) (a .directory) (l .left) (l .at) (l .count) (l .from) (s .before .loop-test .taken) in (
+      omega (arith, place),
+      omega (arith, near, next-near (a .other .now) (a .directory) (l .from)),
+      l .inv .2 ∙ step ∙ rw (← (s .segment-at .ensures .0), ← (operation .same-operation .ensures), behind .behind .given .1),
+    )
 
 returns-2 : tie.Need-returns-2 Inv-loop μ-loop
 returns-2 c =
     let l = c .before .before .before .loop in
     let a = c .before .before .before .before .before .before .args in
     let none : l .count ≡ 0 = omega arith in
-    rw (l .inv .2, none, part-end (a .all) (a .master .now) (a .other .now) (a .directory) (l .left) (l .at) (l .from), ← (c .before .none-kept .ensures), c .if1 .taken)
+    let last = part-end (a .all) (a .master .now) (a .other .now) (a .directory) (l .left) (l .at) (l .from) in
+    rw (l .inv .2, none, last, ← (c .before .none-kept .ensures), c .if1 .taken)
 
 returns-3 : tie.Need-returns-3 Inv-loop μ-loop
 returns-3 c =
     let l = c .before .before .before .loop in
     let a = c .before .before .before .before .before .before .args in
     let none : l .count ≡ 0 = omega arith in
-    rw (l .inv .2, none, part-end (a .all) (a .master .now) (a .other .now) (a .directory) (l .left) (l .at) (l .from), ← (c .before .none-kept .ensures), c .if1 .left)
+    let last = part-end (a .all) (a .master .now) (a .other .now) (a .directory) (l .left) (l .at) (l .from) in
+    rw (l .inv .2, none, last, ← (c .before .none-kept .ensures), c .if1 .left)
 
 pub same-part-spec : {M : Type 1} → statement M
 same-part-spec =
     tie.close
-    (tie.spec Inv-loop μ-loop loop-holds (λ c κs. search needs) same-operation-requires (λ c. search needs) (λ c. search needs) returns (λ c. search needs) (λ c. search needs) loop-again (λ c κs. search needs) returns-2 returns-3)
+    (tie.spec Inv-loop μ-loop loop-holds (λ c κs. search needs) same-operation-requires (λ c. search needs) (λ c. search needs) returns (λ c. search needs) (λ c. search needs) loop-again
+    (λ c κs. search needs) returns-2 returns-3)

@@ -1,4 +1,4 @@
--- `same::run::is_kept` meets its contract. Assumes nothing.
+-- `same::run::is_kept` meets its contract: the second answer is the test itself.
 use borrow.Author.Needs.{needs}
 use Rattle.same.proofs.run.is_kept.Statement.{statement}
 use Rattle.same.proofs.run.is_kept.Tie as tie

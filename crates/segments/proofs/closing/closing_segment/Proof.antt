@@ -20,4 +20,5 @@ returns-3 c = simp (← (c .before .before .before .less .ensures), ne-eqb _ _ (
 pub closing-segment-spec : {M : Type 1} → statement M
 closing-segment-spec =
     tie.close
-    (tie.spec (search needs) (search needs) returns (search needs) (search needs) (search needs) (search needs) (search needs) (search needs) (search needs) returns-2 (search needs) (search needs) (search needs) (search needs) returns-3)
+    (tie.spec (search needs) (search needs) returns (search needs) (search needs) (search needs) (search needs) (search needs) (search needs) (search needs) returns-2 (search needs)
+    (search needs) (search needs) (search needs) returns-3)

@@ -1,36 +1,38 @@
--- `segments::decode::quick_span` meets its contract. Assumes nothing.
-use mathlib.Core.Path.{sym, _∙_}
-use native.Mathlib.Omega.{arith}
-use Rattle.segments.proofs.Spans.{opcode-is, no-opcode, value-read, copy-read}
+-- `segments::decode::quick_span` meets its contract: the opcode decides what the 16 bytes are read as.
 use borrow.Author.Needs.{needs}
+use native.Mathlib.Omega.{arith}
+use mathlib.Core.Path.{_≡_, sym, ap, _∙_}
+use Rattle.format.specs.Bytes.{byte}
+use Rattle.fields.specs.Decoded.{decodedAt, decodedOperation}
+use Rattle.segments.proofs.Spans.{no-opcode, value-read, copy-read}
 use Rattle.segments.proofs.decode.quick_span.Statement.{statement}
 use Rattle.segments.proofs.decode.quick_span.Tie as tie
+
+-- the opcode that is read is the operation's
+opcode-is : (o : tie.After-opcode-in) → decodedAt (o .before .before .before .args .width) (o .before .before .before .args .file .now) (o .before .before .before .args .at) .opcode ≡ o .opcode-in .result
+unfolding decodedOperation
+opcode-is o = sym (o .opcode-in .ensures ∙ rw (o .before .window .ensures))
 
 returns : tie.Need-returns
 returns c =
     let o = c .before .before in
     let w = o .before in
     let a = w .before .before .args in
-    let is = opcode-is (a .file .now) _ (a .at) _ (o .byte-at .ensures) (w .window .ensures) in
-    rw (c .value-in .ensures, w .window .ensures) (value-read (a .file .now) (a .directory) (a .at) (a .width) (omega arith) (omega arith) (omega arith) (o .byte-at .result) is (c .before .if1 .taken))
+    rw (c .value-part .ensures, w .window .ensures) (value-read (a .file .now) (a .directory) (a .at) (a .width) (omega arith, omega arith) (omega arith) (omega (arith, opcode-is o, c .before .if1 .taken)))
 
 returns-2 : tie.Need-returns-2
 returns-2 c =
     let o = c .before .before .before in
     let w = o .before in
     let a = w .before .before .args in
-    let is = opcode-is (a .file .now) _ (a .at) _ (o .byte-at .ensures) (w .window .ensures) in
-    rw (c .copy-in .ensures, w .window .ensures) (copy-read (a .file .now) (a .directory) (a .at) (a .width) (omega arith) (omega arith) (omega arith) (is ∙ c .before .if2 .taken))
+    rw (c .copy-part .ensures, w .window .ensures) (copy-read (a .file .now) (a .directory) (a .at) (a .width) (omega arith, omega arith) (omega arith) (opcode-is o ∙ c .before .if2 .taken))
 
 returns-3 : tie.Need-returns-3
 returns-3 c =
-    let o = c .before .before .before in
-    let w = o .before in
-    let a = w .before .before .args in
-    let is = opcode-is (a .file .now) _ (a .at) _ (o .byte-at .ensures) (w .window .ensures) in
-    rw (c .no-span .ensures) (sym (no-opcode (a .file .now) (a .directory) (a .at) (a .width) (omega (arith, is, c .before .before .if1 .left, c .before .if2 .left))))
+    let e = c .before .before in
+    let o = e .before in
+    let a = o .before .before .before .args in
+    rw (c .no-span .ensures) (sym (no-opcode (a .file .now) (a .directory) (a .at) (a .width) (omega (arith, opcode-is o, e .if1 .left, c .before .if2 .left))))
 
 pub quick-span-spec : {M : Type 1} → statement M
-quick-span-spec =
-    tie.close
-    (tie.spec (search needs) (search needs) (search needs) (search needs) returns (search needs) returns-2 (search needs) returns-3)
+quick-span-spec = tie.close (tie.spec (search needs) (search needs) (search needs) returns (search needs) returns-2 (search needs) returns-3)

@@ -33,6 +33,4 @@ returns-3 c =
     simp (ne-eqb _ _ (p .before .before .if1 .left), ← (p .before .address-width .ensures .0), ← (c .quick-span .ensures))
 
 pub read-span-spec : {M : Type 1} → statement M
-read-span-spec =
-    tie.close
-    (tie.spec (search needs) returns (search needs) (search needs) (search needs) returns-2 quick-span-requires returns-3)
+read-span-spec = tie.close (tie.spec (search needs) returns (search needs) (search needs) (search needs) returns-2 quick-span-requires returns-3)

@@ -7,5 +7,4 @@ returns : tie.Need-returns
 returns c = simp (← (c .before .before .before .less .ensures), ← (c .before .before .less2 .ensures), ← (c .before .next-cursor .ensures), ← (c .less3 .ensures))
 
 pub onward-spec : {M : Type 1} → statement M
-onward-spec =
-    tie.close (tie.spec (search needs) (search needs) (search needs) (search needs) returns)
+onward-spec = tie.close (tie.spec (search needs) (search needs) (search needs) (search needs) returns)

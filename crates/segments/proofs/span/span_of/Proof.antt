@@ -13,6 +13,4 @@ returns-3 : tie.Need-returns-3
 returns-3 c = simp (c .before .before .operation3 .given .1, ← (c .copy-span .ensures))
 
 pub span-of-spec : {M : Type 1} → statement M
-span-of-spec =
-    tie.close
-    (tie.spec (search needs) (search needs) (search needs) (search needs) (search needs) (search needs) returns returns-2 returns-3)
+span-of-spec = tie.close (tie.spec (search needs) (search needs) (search needs) (search needs) (search needs) (search needs) returns returns-2 returns-3)

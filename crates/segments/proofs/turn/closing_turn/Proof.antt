@@ -14,6 +14,4 @@ unfolding closingTurn
 returns-2 c = simp (← (c .before .before .before .before .closing-segment .ensures), ← (c .before .before .before .less .ensures), lt-leb _ _ (c .before .if1 .left), ← (c .onward .ensures))
 
 pub closing-turn-spec : {M : Type 1} → statement M
-closing-turn-spec =
-    tie.close
-    (tie.spec (search needs) (search needs) (search needs) returns (search needs) returns-2)
+closing-turn-spec = tie.close (tie.spec (search needs) (search needs) (search needs) returns (search needs) returns-2)

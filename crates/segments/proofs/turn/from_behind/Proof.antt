@@ -10,5 +10,4 @@ returns-2 : tie.Need-returns-2
 returns-2 c = simp (c .if1 .left)
 
 pub from-behind-spec : {M : Type 1} → statement M
-from-behind-spec =
-    tie.close (tie.spec (search needs) (search needs) (search needs) (search needs) returns returns-2)
+from-behind-spec = tie.close (tie.spec (search needs) (search needs) (search needs) (search needs) returns returns-2)

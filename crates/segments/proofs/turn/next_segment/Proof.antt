@@ -8,18 +8,15 @@ use borrow.Author.Needs.{needs}
 use Rattle.segments.proofs.turn.next_segment.Statement.{statement}
 use Rattle.segments.proofs.turn.next_segment.Tie as tie
 
-returns : tie.Need-returns
-unfolding turn
-returns c = simp (c .before .if1 .taken, ← (c .closing-turn .ensures))
-
 returns-2 : tie.Need-returns-2
 unfolding turn
 returns-2 c =
     let e = c .before .before in
     let a = e .before .before .args in
-    c .span-turn .ensures ∙ span-turns (a .file .now) (a .state .header .«directory_offset») (a .place) (c .before .read-span .result) (decoded (a .file .now) (a .state .header .version) (a .place .cursor)) (c .before .read-span .ensures) ∙ sym (cond-false (a .place .closing) _ _ (e .if1 .left))
+    c .span-turn .ensures
+    ∙ span-turns (a .file .now) (a .state .header .«directory_offset») (a .place) (c .before .read-span .result) (decoded (a .file .now) (a .state .header .version) (a .place .cursor)) (c .before .read-span .ensures)
+    ∙ sym (cond-false (a .place .closing) _ _ (e .if1 .left))
 
 pub next-segment-spec : {M : Type 1} → statement M
-next-segment-spec =
-    tie.close
-    (tie.spec (search needs) returns (search needs) (search needs) returns-2)
+unfolding turn
+next-segment-spec = tie.close (tie.spec (search needs) (λ c. simp (c .before .if1 .taken, ← (c .closing-turn .ensures))) (search needs) (search needs) returns-2)

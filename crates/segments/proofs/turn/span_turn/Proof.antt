@@ -32,6 +32,4 @@ returns-2 c =
     simp (← (e .before .ended .ensures), e .if1 .left, ← (fits .fitted .ensures), ← (from .from-behind .ensures), ← (c .before .behind .ensures), ← (c .less .ensures))
 
 pub span-turn-spec : {M : Type 1} → statement M
-span-turn-spec =
-    tie.close
-    (tie.spec (search needs) (search needs) returns sub-rest (search needs) add-t8 (search needs) (search needs) (search needs) (search needs) returns-2)
+span-turn-spec = tie.close (tie.spec (search needs) (search needs) returns sub-rest (search needs) add-t8 (search needs) (search needs) (search needs) (search needs) returns-2)

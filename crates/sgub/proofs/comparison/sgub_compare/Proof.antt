@@ -11,5 +11,4 @@ returns c =
     (c .compared-of .ensures ∙ ap comparedOn (found .0), found .1, found .2)
 
 pub sgub-compare-spec : {M : Type 1} → statement M
-sgub-compare-spec =
-    tie.close (tie.spec (search needs) (search needs) (search needs) (search needs) returns)
+sgub-compare-spec = tie.close (tie.spec (search needs) (search needs) (search needs) (search needs) returns)

@@ -14,6 +14,4 @@ returns-2 c =
     rw (c .number .ensures, ← (found .0), ← (found .1), c .before .before .verdict .given .1)
 
 pub sgub-start-spec : {M : Type 1} → statement M
-sgub-start-spec =
-    tie.close
-    (tie.spec (search needs) (search needs) (search needs) (search needs) returns returns-2)
+sgub-start-spec = tie.close (tie.spec (search needs) (search needs) (search needs) (search needs) returns returns-2)

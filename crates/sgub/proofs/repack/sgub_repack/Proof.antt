@@ -11,5 +11,4 @@ returns c =
     (c .repacked-of .ensures ∙ ap repackedOn (found .0), found .1)
 
 pub sgub-repack-spec : {M : Type 1} → statement M
-sgub-repack-spec =
-    tie.close (tie.spec (search needs) (search needs) (search needs) returns)
+sgub-repack-spec = tie.close (tie.spec (search needs) (search needs) (search needs) returns)

@@ -1,4 +1,4 @@
--- `targets::Target::outside` meets its contract. Assumes nothing.
+-- `targets::Target::outside` meets its contract: the tests that were taken decide it.
 use borrow.Author.Needs.{needs}
 use Rattle.targets.proofs.Decided.{decided}
 use Rattle.targets.specs.Target.{outside}
@@ -18,6 +18,4 @@ unfolding outside
 returns-3 c = search (decided, ← (c .before .before .before .bulk-start .ensures), ← (c .before .before .bulk-length .ensures))
 
 pub outside-spec : {M : Type 1} → statement M
-outside-spec =
-    tie.close
-    (tie.spec (search needs) (search needs) (search needs) (search needs) (search needs) returns returns-2 (search needs) returns-3)
+outside-spec = tie.close (tie.spec (search needs) (search needs) (search needs) (search needs) (search needs) returns returns-2 (search needs) returns-3)

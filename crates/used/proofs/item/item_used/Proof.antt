@@ -14,6 +14,4 @@ returns-3 : tie.Need-returns-3
 returns-3 c = simp (← (c .before .before .read-item .ensures), c .enum-told .given .1)
 
 pub item-used-spec : {M : Type 1} → statement M
-item-used-spec =
-    tie.close
-    (tie.spec (search needs) (search needs) (search needs) returns (search needs) returns-2 returns-3)
+item-used-spec = tie.close (tie.spec (search needs) (search needs) (search needs) returns (search needs) returns-2 returns-3)

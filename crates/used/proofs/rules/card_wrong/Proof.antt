@@ -17,6 +17,4 @@ returns-4 : tie.Need-returns-4
 returns-4 c = simp (eq-eqb _ _ (c .before .before .before .before .if1 .left), le-leb _ _ (c .before .before .before .if2 .left), le-leb _ _ (c .before .before .if3 .left), ← (c .before .slot .ensures), ← (c .slot-wrong .ensures))
 
 pub card-wrong-spec : {M : Type 1} → statement M
-card-wrong-spec =
-    tie.close
-    (tie.spec returns returns-2 returns-3 (search needs) (search needs) returns-4)
+card-wrong-spec = tie.close (tie.spec returns returns-2 returns-3 (search needs) (search needs) returns-4)

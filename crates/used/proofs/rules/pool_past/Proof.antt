@@ -15,6 +15,4 @@ unfolding poolUsed
 returns-2 c = simp (le-ltb _ _ (c .before .before .before .if1 .left), as25-refuse, c .before .before .read-pool .ensures)
 
 pub pool-past-spec : {M : Type 1} → statement M
-pool-past-spec =
-    tie.close
-    (tie.spec (search needs) (search needs) returns (search needs) (search needs) (search needs) (search needs) returns-2)
+pool-past-spec = tie.close (tie.spec (search needs) (search needs) returns (search needs) (search needs) (search needs) (search needs) returns-2)

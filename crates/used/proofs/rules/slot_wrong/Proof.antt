@@ -19,21 +19,12 @@ Inv-loop slot table count i₀ i =
 abbrev μ-loop : tie.MeasureT-loop
 μ-loop slot table count i₀ i = 8 - i
 
-loop-holds : tie.Need-loop-holds Inv-loop μ-loop
-loop-holds c = (omega arith, refl)
-
 returns : tie.Need-returns Inv-loop μ-loop
 returns c =
     let l = c .before .before in
     let s = l .before in
     let t = s .args .t1 in
     rw (l .loop .inv .1, wrong-end (t .cards) (t .count) (l .loop .i) (s .args .slot) (omega (arith, length-take (t .count) (t .cards))))
-
-mul-card : tie.Need-mul-card Inv-loop μ-loop
-mul-card c = omega arith
-
-element-copy-out-card : tie.Need-element-copy-out-card Inv-loop μ-loop
-element-copy-out-card c = omega arith
 
 returns-2 : tie.Need-returns-2 Inv-loop μ-loop
 returns-2 c =
@@ -42,12 +33,6 @@ returns-2 c =
     let s = l .before in
     let t = s .args .t1 in
     rw (l .loop .inv .1, wrong-step (t .cards) (t .count) (l .loop .i) (s .args .slot) (omega arith) (omega (arith, eight t _ (s .good .0))), eq-eqb _ _ (c .before .if2 .taken)) (c .one-card-wrong .ensures)
-
-add-i : tie.Need-add-i Inv-loop μ-loop
-add-i c = omega arith
-
-loop-less : tie.Need-loop-less Inv-loop μ-loop
-loop-less c = omega arith
 
 loop-again : tie.Need-loop-again Inv-loop μ-loop
 loop-again c =
@@ -66,4 +51,4 @@ returns-3 c =
 pub slot-wrong-spec : {M : Type 1} → statement M
 slot-wrong-spec =
     tie.close
-    (tie.spec Inv-loop μ-loop loop-holds returns mul-card element-copy-out-card (search needs) returns-2 add-i loop-less loop-again returns-3)
+    (tie.spec Inv-loop μ-loop (λ c. (omega arith, refl)) returns (search needs) (search needs) (search needs) returns-2 (search needs) (search needs) loop-again returns-3)

@@ -22,6 +22,4 @@ unfolding cardUsed poolsUsed
 returns-4 c = simp (c .before .before .before .before .operation3 .given .1, ← (c .before .before .card-wrong3 .ensures), c .before .if1 .left) (c .pool-past .ensures)
 
 pub use-wrong-spec : {M : Type 1} → statement M
-use-wrong-spec =
-    tie.close
-    (tie.spec (search needs) (search needs) (search needs) (search needs) (search needs) (search needs) returns (search needs) returns-2 returns-3 returns-4)
+use-wrong-spec = tie.close (tie.spec (search needs) (search needs) (search needs) (search needs) (search needs) (search needs) returns (search needs) returns-2 returns-3 returns-4)

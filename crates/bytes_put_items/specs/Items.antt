@@ -1,0 +1,28 @@
+-- The operations of a pooled file as bytes, by the width of their addresses, and the count in front of a frame.
+use Prim.Native.Nat.{ℕ}
+use mathlib.Core.List.{List, [], _∷_}
+use Rattle.format.specs.declared.operation.Operation.{Operation}
+use Rattle.format.specs.declared.operation.Operation.the-variants.{Write, Fill, Copy}
+use Rattle.format.specs.Bytes.{Field, u8, u, u16, bytesOfAll}
+use Rattle.format.specs.Operation.{addressWidth, sizeOf}
+use Rattle.format.specs.Written.{operationFields}
+
+abbrev pub operationBytes : (width : ℕ) → Operation → List ℕ
+operationBytes width operation = bytesOfAll (operationFields width operation)
+
+-- the fields that every operation begins with
+abbrev pub headFields : (width opcode target address : ℕ) → List Field
+headFields width opcode target address = u8 opcode ∷ u8 target ∷ u width address ∷ []
+
+abbrev pub opcodeOf : Operation → ℕ
+opcodeOf (Write target address value) = 0
+opcodeOf (Fill target address size value) = 1
+opcodeOf (Copy target address pool source size) = 2
+
+-- the size by the table of lengths
+abbrev pub sizeIn : (version : ℕ) → Operation → ℕ
+sizeIn version operation = sizeOf (addressWidth version) (opcodeOf operation)
+
+-- how many operations a frame has
+abbrev pub countBytes : (count : ℕ) → List ℕ
+countBytes count = bytesOfAll (u16 count ∷ [])

@@ -1,0 +1,3 @@
+-- Laws of the one reader.
+pub mod Choices
+pub mod Laws

@@ -1,0 +1,2 @@
+-- Laws of the numbers of a WRITE or a FILL.
+pub mod Laws

@@ -1,0 +1,20 @@
+-- The numbers of a WRITE or a FILL in bytes that begin with it.
+use Prim.Native.Nat.{ℕ, _+_, _-_}
+use mathlib.Core.Bool.{cond}
+use mathlib.Core.List.{List}
+use lib.Dec.{eqb}
+use Rattle.format.specs.Bytes.{byte, be}
+use Rattle.format.specs.Operation.{sizeOf}
+
+-- what a FILL has more than a WRITE
+abbrev pub extraOf : (opcode more : ℕ) → ℕ
+extraOf opcode more = cond (eqb opcode 0) 0 more
+
+unfoldable pub fillLength : (width : ℕ) → List ℕ → ℕ
+fillLength width bytes = cond (eqb (byte bytes 0) 0) 1 (be 4 bytes (2 + width))
+
+unfoldable pub fillSize : (width : ℕ) → List ℕ → ℕ
+fillSize width bytes = sizeOf width 0 + extraOf (byte bytes 0) (sizeOf width 1 - sizeOf width 0)
+
+unfoldable pub writeValue : (width : ℕ) → List ℕ → ℕ
+writeValue width bytes = byte bytes (2 + width)

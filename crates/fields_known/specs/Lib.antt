@@ -1,0 +1,2 @@
+-- What the contracts of `fields_known` cite.
+pub mod Known

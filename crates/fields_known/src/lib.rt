@@ -1,0 +1,49 @@
+// The reader's numbers of a WRITE or a FILL, where a test or an earlier pass has told that it is one: without a load or a branch that
+// waits for the opcode. Each is the number of crate fields (proofs/Laws).
+use big_endian::byte_at;
+use big_endian::read_u32;
+use fields::opcode_in;
+use fields::operation_size;
+ghost use mathlib.Core.Path.{_≡_};
+ghost use Prim.Native.Nat.{_≤_};
+ghost use Rattle.fields_known.specs.Known.{extraOf, fillLength, fillSize, writeValue};
+
+// What a FILL has more than a WRITE.
+fn extra(opcode: u8, more: usize) -> usize
+    ensures { λ r. ⌜ r ≡ extraOf opcode more ⌝ }
+{
+    if opcode == 0 {
+        return 0;
+    }
+    more
+}
+
+// How many writes it makes. The length of a FILL is read in either case.
+pub fn fill_length_in(bytes: &[u8], width: usize) -> u32
+    requires { ⌜ (3 ≤ width) × (width ≤ 4) ⌝ }
+    ensures { λ r. ⌜ r ≡ fillLength width (now (bytes .entry)) ⌝ }
+{
+    let length = read_u32(bytes, 2 + width);
+    if opcode_in(bytes) == 0 {
+        return 1;
+    }
+    length
+}
+
+// How many bytes it has: a WRITE's size, and for a FILL the difference to it.
+pub fn fill_size_in(bytes: &[u8], width: usize) -> usize
+    requires { ⌜ (3 ≤ width) × (width ≤ 4) ⌝ }
+    ensures { λ r. ⌜ (r ≡ fillSize width (now (bytes .entry))) × (r ≤ 16) ⌝ }
+{
+    let write = operation_size(width, 0);
+    let fill = operation_size(width, 1);
+    write + extra(opcode_in(bytes), fill - write)
+}
+
+// The value of a WRITE.
+pub fn write_value_in(bytes: &[u8], width: usize) -> u8
+    requires { ⌜ (3 ≤ width) × (width ≤ 4) ⌝ }
+    ensures { λ r. ⌜ r ≡ writeValue width (now (bytes .entry)) ⌝ }
+{
+    byte_at(bytes, 2 + width)
+}

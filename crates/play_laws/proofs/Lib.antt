@@ -1,0 +1,4 @@
+pub mod Used
+pub mod Address
+pub mod Paced
+pub mod Planned

@@ -1,0 +1,2 @@
+-- What the contracts of `quick_operations` cite.
+pub mod Passes

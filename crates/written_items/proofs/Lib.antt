@@ -1,3 +1,0 @@
-pub mod Items
-pub mod Laid
-pub mod Writing
