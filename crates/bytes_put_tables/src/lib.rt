@@ -11,6 +11,7 @@ ghost use lib.ListN.{length};
 ghost use Rattle.format.specs.Bytes.{bytesOfAll};
 ghost use Rattle.format.specs.Card.{cardsOf};
 ghost use Rattle.format.specs.Written.{cardFields, cardsBytes};
+ghost use Rattle.format.specs.Size.{cardSize};
 ghost use Rattle.big_endian.specs.Put.{put};
 ghost use Rattle.bytes_put_tables.specs.Card.{numberFields};
 ghost use Rattle.bytes_put_tables.specs.Entry.{entryBytes};
@@ -68,7 +69,7 @@ fn put_card(buffer: &mut [u8], at: usize, card: CardRequirement)
 
 // The cards of a table.
 pub fn put_cards(buffer: &mut [u8], at: usize, table: CardTable)
-    requires { ⌜ (table .count ≤ 8) × (at + table .count * 32 ≤ length (now buffer)) ⌝ }
+    requires { ⌜ (table .count ≤ 8) × (at + table .count * cardSize ≤ length (now buffer)) ⌝ }
     ensures { λ _. ⌜ now (buffer .exit) ≡ put (cardsBytes (cardsOf table)) at (now (buffer .entry)) ⌝ }
 {
     let count = table.count;

@@ -7,6 +7,7 @@ use Rattle.format.specs.Card.{cardsFrom}
 use Rattle.format.specs.Checked.{Checked, ok, refused, mapped}
 use Rattle.format.specs.Rule.{verdictOf}
 use Rattle.format.specs.State.{tableOf}
+use Rattle.format.specs.Size.{cardsHeaderSize, cardSize}
 use Rattle.cards.specs.declared.CardsRead.{CardsRead}
 
 -- a verdict, and a table
@@ -23,7 +24,7 @@ reading (refused number place) = (refused number place, tableOf [])
 
 -- the place of a card
 abbrev pub cardPlace : (i : ℕ) → ℕ
-cardPlace i = 48 + i * 32
+cardPlace i = cardsHeaderSize + i * cardSize
 
 -- the cards of a file, where `i` of them are seen
 abbrev pub cardsAfter : List ℕ → (count i least : ℕ) → (seen : List CardRequirement) → Reading

@@ -10,6 +10,7 @@ use Rattle.format.specs.Header.{headerOf}
 use Rattle.format.specs.Repack.{repackInto, bufferAfter}
 use Rattle.format.specs.Rule.{numberOf, refusal}
 use Rattle.format.specs.Stream.{Stream, read}
+use Rattle.format.specs.Size.{masterHeaderSize}
 use Rattle.master.specs.Places.{recordsAt}
 use Rattle.master.specs.Result.{pcmFrom}
 use Rattle.compile.specs.declared.song.Repacked.{Repacked}
@@ -34,7 +35,7 @@ pub record Taken (file : List ℕ) (header : Header) : Type 0 where
 pub record Ordered (file : List ℕ) (header : Header) (pcm : ℕ) : Type 0 where
   pub taken : Taken file header
   pub one : header .version ≡ 1
-  pub run : pcmFrom 0 (recordsAt file (header .«initial_count») 20) ≡ ok pcm
+  pub run : pcmFrom 0 (recordsAt file (header .«initial_count») masterHeaderSize) ≡ ok pcm
 
 -- the answer, and the lent buffer after it
 abbrev pub Repacks : (file buffer buffer′ : List ℕ) → Repacked → Type 0

@@ -8,13 +8,13 @@ use format::Header;
 use format::Part;
 use format::Position;
 use format::Progress;
-use state::between_at;
-use state::frame_from;
-use state::next_part;
-use state::onward_to;
-use state::opening_from;
-use state::opening_limit;
-use state::position_of;
+use next_part::next_part;
+use next_part::opening_limit;
+use position::between_at;
+use position::frame_from;
+use position::onward_to;
+use position::opening_from;
+use position::position_of;
 ghost use mathlib.Core.Path.{_≡_};
 ghost use Prim.Native.Nat.{_+_, _^_, _≤_, _<_};
 ghost use Rattle.current.specs.Current.{noCurrent, goingOn, underWay, frameAt, currentBetween, currentOf};
@@ -69,7 +69,7 @@ fn under_way(file: &[u8], header: Header, progress: Progress) -> Current
 {
     let part = progress.part;
     if part == Part::OPENING {
-        let limit = opening_limit(file.len(), header.version, header.frame_start);
+        let limit = opening_limit(file, header);
         return going_on(limit, position_of(progress));
     }
     if part != Part::FRAME {
@@ -99,7 +99,7 @@ fn current_between(file: &[u8], header: Header, progress: Progress) -> Current
 {
     let next = next_part(header, progress);
     if next.part == Part::OPENING {
-        let limit = opening_limit(file.len(), header.version, header.frame_start);
+        let limit = opening_limit(file, header);
         return going_on(limit, opening_from(header));
     }
     if next.part == Part::FRAME {

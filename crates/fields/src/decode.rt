@@ -14,6 +14,7 @@ use format::RECORD_SIZE;
 use widths::address_width;
 ghost use mathlib.Core.Path.{_≡_};
 ghost use Prim.Native.Nat.{_≤_};
+ghost use Rattle.format.specs.Size.{operationMost};
 ghost use Rattle.fields.specs.Decoded.{decodedOperation, decodedRecord, decodedItem, operationOf};
 
 // The numbers of an item: `length` is 1 where it has none, `value` is 0 in a COPY, `pool` and `source` are 0 in any other. `size` is how
@@ -32,7 +33,7 @@ pub struct Decoded {
 // An operation with addresses of a width.
 pub fn decode_operation(bytes: &[u8], width: usize) -> Decoded
     requires { ⌜ (3 ≤ width) × (width ≤ 4) ⌝ }
-    ensures { λ r. ⌜ (r ≡ decodedOperation width (now (bytes .entry))) × (r .size ≤ 16) ⌝ }
+    ensures { λ r. ⌜ (r ≡ decodedOperation width (now (bytes .entry))) × (r .size ≤ operationMost) ⌝ }
 {
     Decoded {
         opcode: opcode_in(bytes),
@@ -64,7 +65,7 @@ pub fn decode_record(bytes: &[u8]) -> Decoded
 
 // The record or operation of a version.
 pub fn decode_item(bytes: &[u8], version: u8) -> Decoded
-    ensures { λ r. ⌜ (r ≡ decodedItem version (now (bytes .entry))) × (r .size ≤ 16) ⌝ }
+    ensures { λ r. ⌜ (r ≡ decodedItem version (now (bytes .entry))) × (r .size ≤ operationMost) ⌝ }
 {
     if version == 1 {
         return decode_record(bytes);

@@ -10,6 +10,7 @@ ghost use mathlib.Core.Bool.{cond};
 ghost use Prim.Native.Nat.{_+_, _≤_};
 ghost use lib.Dec.{eqb};
 ghost use Rattle.format.specs.Bytes.{byte};
+ghost use Rattle.format.specs.Size.{operationMost};
 ghost use Rattle.fields.specs.Decoded.{decodedOperation};
 
 pub fn opcode_in(bytes: &[u8]) -> u8
@@ -104,7 +105,7 @@ pub fn source_in(bytes: &[u8], width: usize) -> u32
 // How many bytes the operation has, by the table of lengths; 0 where the opcode is none.
 pub fn size_in(bytes: &[u8], width: usize) -> usize
     requires { ⌜ (3 ≤ width) × (width ≤ 4) ⌝ }
-    ensures { λ r. ⌜ (r ≡ decodedOperation width (now (bytes .entry)) .size) × (r ≤ 16) ⌝ }
+    ensures { λ r. ⌜ (r ≡ decodedOperation width (now (bytes .entry)) .size) × (r ≤ operationMost) ⌝ }
 {
     let opcode = byte_at(bytes, 0);
     if 2 < opcode {

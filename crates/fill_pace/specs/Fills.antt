@@ -6,6 +6,7 @@ use lib.Dec.{eqb, leb, ltb}
 use lib.ListN.{getD}
 use Rattle.format.specs.declared.card.CardRequirement.{CardRequirement}
 use Rattle.format.specs.Operation.{addressWidth}
+use Rattle.format.specs.Size.{operationMost}
 use Rattle.quick_rules.specs.Quick.{outOfBulk}
 use Rattle.ranges.specs.Ranges.{startsOf, endsOf}
 use Rattle.fields.specs.declared.decode.Decoded.{Decoded}
@@ -26,7 +27,7 @@ fillCount item starts ends =
 
 -- the same for the operation at a place, which must have 16 bytes before the limit
 unfoldable pub countAt : List ℕ → (width : ℕ) → (starts ends : List ℕ) → (limit at : ℕ) → ℕ
-countAt file width starts ends limit at = cond (ltb limit (at + 16)) 0 (fillCount (decodedAt width file at) starts ends)
+countAt file width starts ends limit at = cond (ltb limit (at + operationMost)) 0 (fillCount (decodedAt width file at) starts ends)
 
 -- so many operations from a cursor, for as many writes as there is room for. Of the first one so many writes are made: where no other
 -- is left of it, it is not taken

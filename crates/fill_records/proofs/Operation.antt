@@ -13,7 +13,7 @@ use Rattle.format.proofs.Sizes.{width-range}
 use Rattle.format.specs.Writes.{write, upward}
 use Rattle.fields.specs.declared.decode.Decoded.{Decoded}
 use Rattle.fields.specs.Decoded.{decodedAt, decodedOperation}
-use Rattle.fields_known.proofs.Laws.{fill-length, fill-size}
+use Rattle.fields_known.proofs.Laws.{fill-length, fill-value, fill-size}
 use Rattle.fill_records.specs.declared.FillPlace.{FillPlace}
 use Rattle.fill_records.specs.Records.{fillPlace, nextFill, fillRecords, placeAfter}
 use Rattle.fill_records.proofs.Records.{after-next}
@@ -97,7 +97,12 @@ module _ (file : List ℕ) (version : ℕ) where
           let range = width-range version in
           let bytes = part file at 16 in
           let opcode : byte bytes 0 ≤ 1 = unfold decodedOperation in low in
-          rw (le-ltb _ _ inside, fill-length (addressWidth version) bytes opcode, fill-size (addressWidth version) bytes opcode (range .0) (range .1))
+          rw (
+            le-ltb _ _ inside,
+            fill-value (addressWidth version) bytes opcode,
+            fill-length (addressWidth version) bytes opcode,
+            fill-size (addressWidth version) bytes opcode (range .0) (range .1),
+          )
 
       wraps : (item .address + made) % 2 ^ 32 ≡ item .address + made
       wraps = mod-eq-of-lt (omega arith)

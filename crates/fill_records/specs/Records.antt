@@ -11,7 +11,7 @@ use Rattle.format.specs.Operation.{addressWidth}
 use Rattle.format.specs.Size.{operationMost}
 use Rattle.format.specs.Writes.{write}
 use Rattle.fields.specs.Decoded.{decodedOperation}
-use Rattle.fields_known.specs.Known.{fillLength, fillSize}
+use Rattle.fields_known.specs.Known.{fillLength, fillSize, fillValue}
 use Rattle.fill_records.specs.declared.FillPlace.{FillPlace}
 
 -- before the records of the operation at a cursor, of which so many are made
@@ -30,7 +30,7 @@ firstRecord width bytes p =
     record {
       target = item .target;
       address = (item .address + p .made) % 2 ^ 32;
-      value = item .value;
+      value = fillValue width bytes;
       left = fillLength width bytes - p .made - 1;
       cursor = p .cursor + fillSize width bytes;
       made = 0;
@@ -40,7 +40,7 @@ firstRecord width bytes p =
 unfoldable pub nextFill : List ℕ → (version : ℕ) → FillPlace → FillPlace
 nextFill file version p =
     cond (ltb 0 (p .left)) (following p)
-    (cond (ltb (length file) (p .cursor + 16)) (fillPlace (p .cursor) (p .made))
+    (cond (ltb (length file) (p .cursor + operationMost)) (fillPlace (p .cursor) (p .made))
     (firstRecord (addressWidth version) (part file (p .cursor) operationMost) p))
 
 -- a place's record

@@ -5,13 +5,14 @@ use big_endian::window;
 use fields::address_in;
 use fields::address_width;
 use fields::target_in;
-use fields::value_in;
 use fields_known::fill_length_in;
 use fields_known::fill_size_in;
+use fields_known::fill_value_in;
 use format::OPERATION_MOST;
 use std::num::wrapping_add_u32;
 ghost use mathlib.Core.Path.{_≡_};
 ghost use Prim.Native.Nat.{_+_, _-_, _^_, _≤_, _<_};
+ghost use Rattle.format.specs.Size.{operationMost};
 ghost use Rattle.fill_records.specs.Records.{fillPlace, following, firstRecord, nextFill};
 
 // A record's target, address and value, and how many more the operation makes behind it. Where none is left, the next operation stands
@@ -66,13 +67,13 @@ fn others(count: u32, made: u32) -> u32
 
 // The first record that is not made yet of the WRITE or FILL in some bytes.
 fn first_record(bytes: &[u8], width: usize, place: FillPlace) -> FillPlace
-    requires { ⌜ (3 ≤ width) × (width ≤ 4) × (place .cursor + 16 < 2 ^ 64) ⌝ }
+    requires { ⌜ (3 ≤ width) × (width ≤ 4) × (place .cursor + operationMost < 2 ^ 64) ⌝ }
     ensures { λ r. ⌜ r ≡ firstRecord width (now (bytes .entry)) place ⌝ }
 {
     FillPlace {
         target: target_in(bytes),
         address: wrapping_add_u32(address_in(bytes, width), place.made),
-        value: value_in(bytes, width),
+        value: fill_value_in(bytes, width),
         left: others(fill_length_in(bytes, width), place.made),
         cursor: place.cursor + fill_size_in(bytes, width),
         made: 0,

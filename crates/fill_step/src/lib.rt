@@ -7,7 +7,7 @@ use current::no_step;
 use current::step_to;
 use fill_pace::pace_fills;
 use format::CardTable;
-use state::operations_left;
+use next_part::operations_left;
 ghost use mathlib.Core.Path.{_≡_};
 ghost use Prim.Native.Nat.{_≤_};
 ghost use lib.ListN.{length};

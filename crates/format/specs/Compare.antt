@@ -12,6 +12,7 @@ use Rattle.format.specs.Lent.{stored}
 use Rattle.format.specs.Pool.{Payload}
 use Rattle.format.specs.Stream.{Stream, read}
 use Rattle.format.specs.Writes.{openingWrites, writesOfAll}
+use Rattle.format.specs.Size.{pcmSize}
 
 abbrev pub sameWrite : WriteRecord → WriteRecord → Bool
 sameWrite a b = eqb (a .target) (b .target) && eqb (a .address) (b .address) && eqb (a .value) (b .value)
@@ -34,7 +35,7 @@ played memory (w ∷ ws) = played (cond (eqb (w .target) 2) (set memory (w .addr
 
 -- the image of a file: "begun at 0x80 and given the file's opening PCM writes"
 abbrev pub imageOf : Stream → List ℕ
-imageOf s = played (replicate 1048576 0x80) (openingWrites s)
+imageOf s = played (replicate pcmSize 0x80) (openingWrites s)
 
 -- "each frame's whole write list agrees", and the frame counts do
 unfoldable pub sameFrames : List Payload → List Payload → List (List Operation) → List (List Operation) → Bool
@@ -73,8 +74,8 @@ unfoldable pub compared : (file file′ : List ℕ) → (image image′ : ℕ) �
 compared file file′ image image′ =
     inFile 1 (readVersion 1 file) λ s.
     inFile 2 (readVersion 2 file′) λ s′.
-    inFile 1 (refuse 24 0 (ltb image 1048576)) λ _.
-    inFile 2 (refuse 24 0 (ltb image′ 1048576)) λ _.
+    inFile 1 (refuse 24 0 (ltb image pcmSize)) λ _.
+    inFile 2 (refuse 24 0 (ltb image′ pcmSize)) λ _.
     agreed (agree s s′)
 
 -- "pass or fail, the images then hold those bytes; lent bytes beyond an image stay"; a refusal writes nothing

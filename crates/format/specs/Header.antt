@@ -7,6 +7,7 @@ use lib.Dec.{eqb, ltb}
 use Rattle.format.specs.declared.header.Header.{Header}
 use Rattle.format.specs.Bytes.{byte, be}
 use Rattle.format.specs.Checked.{Checked, ok, refuse, _>>=_, _>>_}
+use Rattle.format.specs.Size.{recordSize, masterHeaderSize}
 
 -- the letters SGUB as a number of 4 bytes
 abbrev pub letters : ℕ
@@ -28,9 +29,9 @@ plainHeader file =
       «frame_count» = be 4 file 8;
       «pool_count» = 0;
       «initial_count» = be 4 file 12;
-      «directory_offset» = 20;
-      «initial_start» = 20;
-      «frame_start» = 20 + be 4 file 12 * 5;
+      «directory_offset» = masterHeaderSize;
+      «initial_start» = masterHeaderSize;
+      «frame_start» = masterHeaderSize + be 4 file 12 * recordSize;
       «total_size» = be 4 file 16;
     }
 

@@ -14,6 +14,7 @@ use Rattle.format.specs.Pool.{Payload, noPool, kindWrong}
 use Rattle.format.specs.Stream.{Stream}
 use Rattle.format.specs.Target.{targetOf, missing, writeLimit, bulkStart, bulkLength, kindFor}
 use Rattle.format.specs.Written.{written}
+use Rattle.format.specs.Size.{fileLimit}
 
 -- each element of a list is so
 abbrev pub Each : {A : Type 0} → (A → Type 0) → List A → Type 0
@@ -101,4 +102,4 @@ pub record Limits (s : Stream) : Type 0 where
   pub opening-fits : Each (OperationFits (s .version) (s .cards) (s .pools)) (s .opening)
   pub some-frame : 1 ≤ length (s .frames)
   pub frames-fit : Each (FrameFits (s .version) (s .cards) (s .pools)) (s .frames)
-  pub total-size : length (written s) ≤ 0xE00000
+  pub total-size : length (written s) ≤ fileLimit

@@ -14,6 +14,7 @@ use Rattle.format.specs.State.{noWave}
 use Rattle.format.specs.Player.{wavesByAll, Played, call}
 use Rattle.format.specs.Stream.{Stream}
 use Rattle.format.specs.Writes.{vsync, vsyncOperations}
+use Rattle.format.specs.Size.{pcmSize}
 
 -- CALLS
 
@@ -98,7 +99,7 @@ pub record Listener : Type 0 where
 
 -- "none at first, and PCM memory, at first 1,048,576 bytes of 0x80"
 unfoldable pub newListener : Listener
-newListener = record { ended = []; current = []; pcm = replicate 1048576 0x80 }
+newListener = record { ended = []; current = []; pcm = replicate pcmSize 0x80 }
 
 -- "complete ends the vsync"
 abbrev pub ending : Bool → Listener → Listener

@@ -25,6 +25,7 @@ use Rattle.format.specs.Writes.{writesWith, targetNumber, closingWrites}
 use Rattle.format.specs.Lent.{lentAfter}
 use Rattle.format.specs.State.{betweenAt, openingFrom, frameFrom, closingBehind, onwardTo, progressAt, positionOf, partOf, moved}
 use Rattle.format.specs.Next.{nextPart, byNext}
+use Rattle.format.specs.Size.{entrySize}
 
 -- WHAT A CALL READS
 
@@ -45,7 +46,7 @@ cardUsed setting target =
 -- rules 9 and 11 for the pool of a COPY
 unfoldable pub poolUsed : List ℕ → (directory pools id : ℕ) → Checked (Unit {0})
 poolUsed file directory pools id = do
-  refuse 9 0 (ltb (length file) (directory + pools * 16))
+  refuse 9 0 (ltb (length file) (directory + pools * entrySize))
   refuse 11 0 (ltb (length file) (poolAt file directory id .offset + poolAt file directory id .size))
 
 unfoldable pub poolsUsed : List ℕ → (directory pools : ℕ) → Operation → Checked (Unit {0})

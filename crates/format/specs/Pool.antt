@@ -8,11 +8,12 @@ use lib.Dec.{eqb, ltb}
 use Rattle.format.specs.declared.pool.Pool.{Pool}
 use Rattle.format.specs.Bytes.{byte, be, part}
 use Rattle.format.specs.Checked.{Checked, ok, refuse, _>>=_, _>>_}
+use Rattle.format.specs.Size.{entrySize, pcmSize}
 
 -- the entry of a pool
 abbrev pub poolAt : List ℕ → (directory id : ℕ) → Pool
 poolAt file directory id =
-    record { kind = byte file (directory + id * 16 + 2); size = be 4 file (directory + id * 16 + 4); offset = be 4 file (directory + id * 16 + 12) }
+    record { kind = byte file (directory + id * entrySize + 2); size = be 4 file (directory + id * entrySize + 4); offset = be 4 file (directory + id * entrySize + 12) }
 
 -- "kind 3: version 3 up to 0x400000, version 4 up to 0x2000000"; version 2 has none
 unfoldable pub bankLimit : (version : ℕ) → ℕ
@@ -22,7 +23,7 @@ bankLimit version = cond (eqb version 4) 0x2000000 (cond (eqb version 3) 0x40000
 unfoldable pub kindWrong : (version kind size : ℕ) → Bool
 kindWrong version kind size =
     cond (eqb kind 1) (not (eqb size 256))
-    (cond (eqb kind 2) (eqb size 0 || ltb 1048576 size)
+    (cond (eqb kind 2) (eqb size 0 || ltb pcmSize size)
     (cond (eqb kind 3) (eqb size 0 || ltb (bankLimit version) size) true))
 
 -- what breaks the pool rules (10); `start` is where the directory or the payload before ended
@@ -49,7 +50,7 @@ unfoldable pub poolsFrom : (version : ℕ) → List ℕ → (directory count id 
 poolsFrom version file directory zero id start = ok ([], start)
 poolsFrom version file directory (suc count) id start = do
   let pool = poolAt file directory id
-  let at = directory + id * 16
+  let at = directory + id * entrySize
   refuse 10 at (poolWrong version file at id start pool)
   refuse 11 at (ltb (length file) (start + pool .size))
   (pools, end) ← poolsFrom version file directory count (suc id) (start + pool .size)

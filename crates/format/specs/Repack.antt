@@ -13,6 +13,7 @@ use Rattle.format.specs.Pool.{Payload}
 use Rattle.format.specs.Stream.{Stream, read}
 use Rattle.format.specs.Writes.{targetNumber}
 use Rattle.format.specs.Written.{written}
+use Rattle.format.specs.Size.{pcmSize, fileLimit}
 
 -- the fields of a master's record
 abbrev pub address : Operation → ℕ
@@ -108,7 +109,7 @@ wavePool bytes = record { kind = 1; bytes = bytes }
 -- "if PCM was written and less than 1,048,576 bytes, a FILL of the rest with 0x80", and "a COPY of all of it"
 abbrev pub pcmFill : (count : ℕ) → List Operation
 pcmFill zero = []
-pcmFill (suc n) = cond (ltb (suc n) 1048576) (Fill 2 (suc n) (1048576 - suc n) 0x80 ∷ []) []
+pcmFill (suc n) = cond (ltb (suc n) pcmSize) (Fill 2 (suc n) (pcmSize - suc n) 0x80 ∷ []) []
 
 abbrev pub pcmCopy : (count : ℕ) → List Operation
 pcmCopy zero = []
@@ -138,7 +139,7 @@ repack file = do
   refuse 21 0 (not (eqb (s .version) 1))
   refuse 22 0 (not (inOrder 0 (toPcm (s .opening))))
   let result = written (repacked s)
-  refuse 23 0 (ltb 0xE00000 (length result))
+  refuse 23 0 (ltb fileLimit (length result))
   ok result
 
 -- repacking into a lent buffer of so many bytes: the refusals 1 to 24

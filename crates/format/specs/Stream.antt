@@ -13,6 +13,7 @@ use Rattle.format.specs.Checked.{Checked, ok, refuse, mapped, _>>=_, _>>
 use Rattle.format.specs.Header.{headerSize, headerFrom}
 use Rattle.format.specs.Operation.{Setting, itemAt}
 use Rattle.format.specs.Pool.{Payload, poolAt, poolsFrom}
+use Rattle.format.specs.Size.{cardSize, entrySize, fileLimit}
 
 -- what a file says
 pub record Stream : Type 0 where
@@ -54,10 +55,10 @@ openingLimit header file = cond (eqb (header .version) 1) (length file) (header 
 unfoldable pub countsWrong : Header → (length′ : ℕ) → Bool
 countsWrong header length′ =
     eqb (header .«frame_count») 0
-    || ltb 0xE00000 (header .«total_size»)
+    || ltb fileLimit (header .«total_size»)
     || not (eqb (header .«total_size») length′)
     || ltb 65536 (header .«pool_count»)
-    || not (eqb (header .«directory_offset») (headerSize (header .version) + header .«card_count» * 32))
+    || not (eqb (header .«directory_offset») (headerSize (header .version) + header .«card_count» * cardSize))
 
 -- "a pooled opening does not start where the payloads end, or the frames start before the opening or after the file's end" (12); the
 -- payloads end at `end`. Of version 1 this says that its opening records pass the file's end
@@ -75,7 +76,7 @@ read file = do
   -- 8: the counts
   refuse 8 0 (countsWrong header (length file))
   -- 9: "the pool directory passes the file's end"
-  let payloads = header .«directory_offset» + header .«pool_count» * 16
+  let payloads = header .«directory_offset» + header .«pool_count» * entrySize
   refuse 9 0 (ltb (length file) payloads)
   -- 10 and 11: the pools
   (pools, end) ← poolsFrom (header .version) file (header .«directory_offset») (header .«pool_count») 0 payloads

@@ -13,6 +13,7 @@ use Rattle.format.specs.Header.{letters, headerSize}
 use Rattle.format.specs.Operation.{addressWidth}
 use Rattle.format.specs.Pool.{Payload}
 use Rattle.format.specs.Stream.{Stream}
+use Rattle.format.specs.Size.{cardSize, entrySize}
 
 -- opcode, target, address, rest
 abbrev pub operationFields : (width : ℕ) → Operation → List Field
@@ -70,10 +71,10 @@ payloadsBytes (pool ∷ pools) = pool .bytes ++ payloadsBytes pools
 
 -- where the parts of a file start, and where it ends
 abbrev pub directoryPlace : Stream → ℕ
-directoryPlace s = headerSize (s .version) + length (s .cards) * 32
+directoryPlace s = headerSize (s .version) + length (s .cards) * cardSize
 
 abbrev pub payloadsPlace : Stream → ℕ
-payloadsPlace s = directoryPlace s + length (s .pools) * 16
+payloadsPlace s = directoryPlace s + length (s .pools) * entrySize
 
 abbrev pub openingPlace : Stream → ℕ
 openingPlace s = payloadsPlace s + length (payloadsBytes (s .pools))

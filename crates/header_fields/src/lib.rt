@@ -2,6 +2,8 @@
 use big_endian::byte_at;
 use big_endian::read_u32;
 use format::Header;
+use format::MASTER_HEADER_SIZE;
+use format::RECORD_SIZE;
 ghost use mathlib.Core.Path.{_≡_};
 ghost use Rattle.format.specs.Header.{periodOf, cardCount, plainHeader, pooledHeader, headerOf};
 
@@ -17,9 +19,9 @@ fn plain_header(file: &[u8]) -> Header
         frame_count: read_u32(file, 8),
         pool_count: 0,
         initial_count: records,
-        directory_offset: 20,
-        initial_start: 20,
-        frame_start: 20 + records as usize * 5,
+        directory_offset: MASTER_HEADER_SIZE as u32,
+        initial_start: MASTER_HEADER_SIZE as u32,
+        frame_start: MASTER_HEADER_SIZE + records as usize * RECORD_SIZE,
         total_size: read_u32(file, 16),
     }
 }

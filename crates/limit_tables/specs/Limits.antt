@@ -17,7 +17,7 @@ unfoldable pub bulkEnd : Target → ℕ
 bulkEnd target = cond (missing target) 0 (bulkStart target + bulkLength target + 1)
 
 -- the values of a function at the numbers below `count`
-unfoldable pub tabled : {A : Type 0} → (ℕ → A) → (count : ℕ) → List A
+unfoldable pub tabled : (ℕ → ℕ) → (count : ℕ) → List ℕ
 tabled f zero = []
 tabled f (suc n) = tabled f n ++ (f n ∷ [])
 
@@ -31,21 +31,21 @@ limitsFor target =
       kind = kindFor target;
     }
 
--- as a row of the table
-abbrev pub rowFor : Target → List ℕ
-rowFor target = writeEnd target ∷ bulkStart target ∷ bulkEnd target ∷ kindFor target ∷ []
+-- a column of the table: one number of every target
+abbrev pub columnOf : (version : ℕ) → List CardRequirement → (Target → ℕ) → List ℕ
+columnOf version cards f = tabled (λ number. f (targetOf version cards number)) 12
 
--- the table of a version with its cards, a row for each target number
+-- the table of a version with its cards
 unfoldable pub limitTable : (version : ℕ) → List CardRequirement → List (List ℕ)
-limitTable version cards = tabled (λ number. rowFor (targetOf version cards number)) 12
+limitTable version cards =
+    columnOf version cards writeEnd ∷ columnOf version cards bulkStart ∷ columnOf version cards bulkEnd ∷ columnOf version cards kindFor ∷ []
 
--- the limits in the row of a number
+-- the limits of a target number
 abbrev pub limitsAt : List (List ℕ) → (number : ℕ) → TargetLimits
 limitsAt table number =
-    let row = getD table number [] in
     record {
-      «write_end» = getD row 0 0;
-      «bulk_start» = getD row 1 0;
-      «bulk_end» = getD row 2 0;
-      kind = getD row 3 0;
+      «write_end» = getD (getD table 0 []) number 0;
+      «bulk_start» = getD (getD table 1 []) number 0;
+      «bulk_end» = getD (getD table 2 []) number 0;
+      kind = getD (getD table 3 []) number 0;
     }

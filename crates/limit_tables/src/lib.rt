@@ -19,9 +19,9 @@ pub struct TargetLimits {
     pub kind: u64,
 }
 
-// A row for each target number, lent to the loops: its four numbers in the order of TargetLimits. A table of structs by value would be
-// copied where it is indexed.
-pub type LimitTable = [[u64; 4]; TARGETS];
+// A column for each of the four numbers of TargetLimits, in its order, lent to the loops. In a column a target's number is at its place
+// without a product, which an array of rows needs for each item; a table of structs by value would be copied where it is indexed.
+pub type LimitTable = [[u64; TARGETS]; 4];
 
 // The address behind the last one of a WRITE; 0 for a missing target.
 fn write_end(target: Target) -> u32
@@ -47,20 +47,20 @@ pub fn bulk_end(target: Target) -> u64
 pub fn limit_table(version: u8, cards: CardTable) -> LimitTable
     ensures { λ r. ⌜ r ≡ limitTable version (cardsOf cards) ⌝ }
 {
-    let mut table = [[0; 4]; TARGETS];
+    let mut write_ends: [u64; TARGETS] = [0; TARGETS];
+    let mut bulk_starts: [u64; TARGETS] = [0; TARGETS];
+    let mut bulk_ends: [u64; TARGETS] = [0; TARGETS];
+    let mut kinds: [u64; TARGETS] = [0; TARGETS];
     let mut number: usize = 0;
     while number < TARGETS {
         let target = find_target(number as u8, version, cards);
-        let row = [
-            write_end(target) as u64,
-            target.bulk_start() as u64,
-            bulk_end(target),
-            target.kind() as u64,
-        ];
-        table[number] = row;
+        write_ends[number] = write_end(target) as u64;
+        bulk_starts[number] = target.bulk_start() as u64;
+        bulk_ends[number] = bulk_end(target);
+        kinds[number] = target.kind() as u64;
         number += 1;
     }
-    table
+    [write_ends, bulk_starts, bulk_ends, kinds]
 }
 
 // The limits of a target number.
@@ -69,9 +69,9 @@ pub fn limits_at(table: &LimitTable, number: usize) -> TargetLimits
     ensures { λ r. ⌜ r ≡ limitsAt (now (table .entry)) number ⌝ }
 {
     TargetLimits {
-        write_end: table[number][0],
-        bulk_start: table[number][1],
-        bulk_end: table[number][2],
-        kind: table[number][3],
+        write_end: table[0][number],
+        bulk_start: table[1][number],
+        bulk_end: table[2][number],
+        kind: table[3][number],
     }
 }

@@ -6,6 +6,7 @@ use Rattle.format.specs.declared.operation.Operation.{Operation}
 use Rattle.format.specs.declared.operation.Operation.the-variants.{Write}
 use Rattle.format.specs.Bytes.{byte, be}
 use Rattle.format.specs.Stream.{Stream}
+use Rattle.format.specs.Size.{recordSize, masterHeaderSize}
 
 -- the record at a place
 abbrev pub recordOf : List ℕ → (at : ℕ) → Operation
@@ -27,7 +28,7 @@ waveAt file at = valuesAt file 256 at
 
 -- the place behind the frame at a place
 abbrev pub behindFrame : List ℕ → (at : ℕ) → ℕ
-behindFrame file at = at + 2 + be 2 file at * 5
+behindFrame file at = at + 2 + be 2 file at * recordSize
 
 -- so many frames from a place, and where they end
 unfoldable pub framesAt : List ℕ → (count at : ℕ) → List (List Operation)
@@ -41,4 +42,4 @@ framesEnd file (suc count) at = framesEnd file count (behindFrame file at)
 -- what a master with a header says
 abbrev pub masterOf : List ℕ → Header → Stream
 masterOf file header =
-    record { version = 1; repeat = header .repeat; period = 0; cards = []; pools = []; opening = recordsAt file (header .«initial_count») 20; frames = framesAt file (header .«frame_count») (20 + header .«initial_count» * 5) }
+    record { version = 1; repeat = header .repeat; period = 0; cards = []; pools = []; opening = recordsAt file (header .«initial_count») masterHeaderSize; frames = framesAt file (header .«frame_count») (masterHeaderSize + header .«initial_count» * recordSize) }

@@ -10,6 +10,7 @@ use Rattle.format.specs.declared.operation.Operation.the-variants.{Copy}
 use Rattle.format.specs.Bytes.{be, u16, bytesOfAll}
 use Rattle.format.specs.Repack.{Piece, wave, single, startsWave, pieces}
 use Rattle.format.specs.Written.{operationsBytes}
+use Rattle.format.specs.Size.{recordSize}
 use Rattle.master.specs.Places.{recordsAt, behindFrame}
 use Rattle.master.specs.Result.{pieceCount}
 
@@ -39,7 +40,7 @@ Later at spot = (spot ≡ 0 → ⊥) → at ≤ spot
 pub record Marked (file spots : List ℕ) (used count at : ℕ) : Type 0 where
   pub more : List ℕ
   pub marks : drop used spots ≡ usesAt file count at ++ more
-  pub later : Later (at + count * 5) (getD more 0 0)
+  pub later : Later (at + count * recordSize) (getD more 0 0)
   pub few : used + length (usesAt file count at) ≤ 11468
 
 -- the uses of so many frames from a place are all that is still noted

@@ -2,11 +2,11 @@
 use format::CardTable;
 use format::Header;
 use limit_tables::LimitTable;
+use next_part::opening_limit;
 use operation::Walked;
 use operation::check_operations;
 use quick::either;
 use quick::quick_run;
-use state::opening_limit;
 ghost use mathlib.Core.Path.{_≡_};
 ghost use Rattle.format.specs.Card.{cardsOf};
 ghost use Rattle.format.specs.Operation.{settingOf};
@@ -20,7 +20,7 @@ pub fn check_opening(file: &[u8], header: Header, cards: CardTable, table: &Limi
     requires { ⌜ now table ≡ limitTable (header .version) (cardsOf cards) ⌝ }
     ensures { λ r. ⌜ walkedOf r ≡ walked (settingOf (now (file .entry)) header cards) (now (file .entry)) (openingLimit header (now (file .entry))) (header .«initial_count») (header .«initial_start») ⌝ }
 {
-    let limit = opening_limit(file.len(), header.version, header.frame_start);
+    let limit = opening_limit(file, header);
     let run = quick_run(
         file,
         header.version,

@@ -2,7 +2,7 @@
 use crate::item::start;
 use format::Progress;
 use format::StreamPlayer;
-use state::operations_left;
+use next_part::operations_left;
 use state::placed;
 ghost use mathlib.Core.Path.{_≡_};
 ghost use Prim.Native.Nat.{_≤_};

@@ -6,7 +6,9 @@ use lib.Dec.{eqb, leb, ltb}
 use Rattle.format.specs.declared.operation.WriteRecord.{WriteRecord}
 use Rattle.format.specs.Bytes.{part}
 use Rattle.format.specs.Operation.{addressWidth, sizeOf}
-use Rattle.format.specs.Size.{recordSize}
+use Rattle.format.specs.Size.{recordSize, operationMost}
+use Rattle.targets.specs.declared.Target.the-variants.{Core, Pcm, Bank, Si22}
+use Rattle.targets.specs.Target.{writeLimit}
 use Rattle.format.specs.Writes.{write}
 use Rattle.fields.specs.Decoded.{decodedRecord, decodedItem}
 use Rattle.fields_known.specs.Known.{writeValue}
@@ -14,10 +16,10 @@ use Rattle.fields_known.specs.Known.{writeValue}
 -- the address behind the last one of such a target; 0 for the others
 unfoldable pub plainEnd : (version target : ℕ) → ℕ
 plainEnd version target =
-    cond (ltb target 2) 0x900
-    (cond (eqb target 2) 0x100000
-    (cond (eqb version 3) (cond (eqb target 3) 0x2000000 0)
-    (cond (eqb version 4) (cond (eqb target 11) 0x40 0) 0)))
+    cond (ltb target 2) (writeLimit Core + 1)
+    (cond (eqb target 2) (writeLimit Pcm + 1)
+    (cond (eqb version 3) (cond (eqb target 3) (writeLimit Bank + 1) 0)
+    (cond (eqb version 4) (cond (eqb target 11) (writeLimit Si22 + 1) 0) 0)))
 
 -- how many bytes it has: a record of version 1, or a WRITE
 unfoldable pub plainSize : (version : ℕ) → ℕ
@@ -31,7 +33,7 @@ plainIn version bytes =
 
 -- whether one stands at a place that is 16 bytes before an end
 unfoldable pub plainAt : (version : ℕ) → List ℕ → (end at : ℕ) → Bool
-plainAt version file end at = leb (at + 16) end && plainIn version (part file at 16)
+plainAt version file end at = leb (at + operationMost) end && plainIn version (part file at operationMost)
 
 -- the place behind so many of them, or 0 where they are not all plain
 unfoldable pub plainBehind : (version : ℕ) → List ℕ → (end count at : ℕ) → ℕ
@@ -45,7 +47,7 @@ plainValue version bytes = cond (eqb version 1) (decodedRecord bytes .value) (wr
 -- the write of one
 unfoldable pub plainWrite : (version : ℕ) → List ℕ → (at : ℕ) → WriteRecord
 plainWrite version file at =
-    let bytes = part file at 16 in
+    let bytes = part file at operationMost in
     let item = decodedItem version bytes in
     write (item .target) (item .address) (plainValue version bytes)
 

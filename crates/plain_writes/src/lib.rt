@@ -7,11 +7,13 @@ use fields::decode_record;
 use fields::opcode_in;
 use fields::operation_size;
 use fields::target_in;
+use format::OPERATION_MOST;
 use format::RECORD_SIZE;
 use targets::Target;
 ghost use mathlib.Core.Path.{_≡_};
 ghost use Prim.Native.Nat.{_≤_};
 ghost use lib.ListN.{length};
+ghost use Rattle.format.specs.Size.{operationMost};
 ghost use Rattle.plain_writes.specs.Plain.{plainEnd, plainSize, plainIn, plainBehind};
 
 // The address behind the last one of such a target; 0 for the others.
@@ -41,7 +43,7 @@ fn plain_end(version: u8, target: u8) -> u32
 
 // How many bytes a plain WRITE has.
 pub fn plain_size(version: u8) -> usize
-    ensures { λ r. ⌜ (r ≡ plainSize version) × (r ≤ 16) ⌝ }
+    ensures { λ r. ⌜ (r ≡ plainSize version) × (r ≤ operationMost) ⌝ }
 {
     if version == 1 {
         return RECORD_SIZE;
@@ -73,10 +75,10 @@ pub fn plain_behind(file: &[u8], version: u8, end: usize, count: u32, start: usi
     let mut at = start;
     let mut left = count;
     while 0 < left {
-        if end < 16 {
+        if end < OPERATION_MOST {
             return 0;
         }
-        if end - 16 < at {
+        if end - OPERATION_MOST < at {
             return 0;
         }
         if !plain_in(version, window(file, at)) {

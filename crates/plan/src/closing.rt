@@ -3,8 +3,8 @@ use crate::taken::Taken;
 use crate::taken::refused_part;
 use big_endian::smaller;
 use format::Progress;
+use next_part::closing_count;
 use state::closing_at;
-use state::closing_count;
 ghost use mathlib.Core.Path.{_≡_};
 ghost use Rattle.plan.specs.Told.{closingTaken};
 

@@ -5,9 +5,9 @@ use crate::taken::behind;
 use crate::taken::taken_by;
 use format::Progress;
 use format::StreamPlayer;
+use next_part::opening_limit;
+use next_part::operations_left;
 use pace::pace;
-use state::opening_limit;
-use state::operations_left;
 ghost use mathlib.Core.Path.{_≡_};
 ghost use Rattle.format.specs.Pace.{planOpening};
 ghost use Rattle.plan.specs.Told.{planTold, takenTold};
@@ -16,7 +16,7 @@ pub fn plan_opening(file: &[u8], state: StreamPlayer, room: usize, progress: Pro
     ensures { λ r. ⌜ takenTold state r ≡ planTold state (planOpening state (now (file .entry)) room progress) ⌝ }
 {
     let frame_start = state.header.frame_start;
-    let limit = opening_limit(file.len(), state.header.version, frame_start);
+    let limit = opening_limit(file, state.header);
     let paced = pace(file, state, limit, room, progress);
     let taken = taken_by(room, paced);
     if paced.refused {

@@ -1,5 +1,5 @@
 // The player of a stream file that is started: one vsync call after the other.
 mod vsync;
 
-pub use vsync::Vsync;
+pub use planned_vsync::Vsync;
 pub use vsync::advance_vsync;

@@ -2,35 +2,12 @@
 use empty_step::empty_step;
 use format::StreamPlayer;
 use format::WriteRecord;
-use plan::plan_call;
+use planned_vsync::Vsync;
+use planned_vsync::planned_vsync;
+use position::store_position;
 use quick_step::quick_step;
-use state::store_position;
-use store::store_call;
 use store_step::store_step;
-ghost use Rattle.player.specs.Vsync.{Advanced};
-
-// What a call tells: refusal 25 or 0, how many records it stored, and whether the vsync is complete.
-#[repr(C)]
-pub struct Vsync {
-    pub number: u32,
-    pub count: usize,
-    pub complete: bool,
-}
-
-// The call of any state: its plan is made, and then its records are stored.
-fn planned_vsync(state: &mut StreamPlayer, file: &[u8], run: &mut [WriteRecord]) -> Vsync
-    ensures { λ r. ⌜ Advanced (now (state .entry)) (now (file .entry)) (now (run .entry)) r (now (state .exit)) (now (run .exit)) ⌝ }
-{
-    let before = *state;
-    let plan = plan_call(before, file, run.len());
-    store_call(run, file, before, plan.count);
-    *state = plan.next;
-    Vsync {
-        number: plan.number,
-        count: plan.count,
-        complete: plan.complete,
-    }
-}
+ghost use Rattle.planned_vsync.specs.Vsync.{Advanced};
 
 // Any call that is not an empty frame's. One that takes nothing but WRITEs and FILLs changes only the position.
 fn busy_vsync(state: &mut StreamPlayer, file: &[u8], run: &mut [WriteRecord]) -> Vsync

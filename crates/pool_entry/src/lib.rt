@@ -1,6 +1,7 @@
 // The entry of a pool in the directory, and a part of a file.
 use big_endian::byte_at;
 use big_endian::read_u32;
+use format::ENTRY_SIZE;
 use format::Header;
 use format::Pool;
 ghost use mathlib.Core.Path.{_≡_};
@@ -12,7 +13,7 @@ ghost use Rattle.pool_entry.specs.Entry.{entryOf};
 pub fn read_pool(file: &[u8], directory: u32, id: u32) -> Pool
     ensures { λ r. ⌜ r ≡ poolAt (now (file .entry)) directory id ⌝ }
 {
-    let at = directory as usize + id as usize * 16;
+    let at = directory as usize + id as usize * ENTRY_SIZE;
     Pool {
         kind: byte_at(file, at + 2),
         size: read_u32(file, at + 4),

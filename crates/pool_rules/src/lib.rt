@@ -2,6 +2,7 @@
 use big_endian::byte_at;
 use big_endian::read_u16;
 use big_endian::read_u32;
+use format::PCM_SIZE;
 use format::Pool;
 use format::Rule;
 use format::Verdict;
@@ -37,7 +38,7 @@ fn kind_wrong(version: u8, kind: u8, size: u32) -> bool
         if size == 0 {
             return true;
         }
-        return 1048576 < size;
+        return PCM_SIZE < size as usize;
     }
     if kind == 3 {
         if size == 0 {

@@ -1,4 +1,5 @@
 // Walks over the pools, with the sheet's rules 10 and 11.
+use format::ENTRY_SIZE;
 use format::Header;
 use format::Refusal;
 use format::Verdict;
@@ -7,6 +8,7 @@ use pool_rules::check_pool;
 ghost use mathlib.Core.Path.{_≡_};
 ghost use Prim.Native.Nat.{_+_, _*_};
 ghost use Rattle.pools.specs.Pools.{poolsReadOf, poolsEnd};
+ghost use Rattle.format.specs.Size.{entrySize};
 
 // The place behind the last payload, or a refusal.
 pub enum PoolsRead {
@@ -16,15 +18,15 @@ pub enum PoolsRead {
 
 // The pools of a file with its header. The payloads start behind the directory.
 pub fn check_pools(file: &[u8], header: Header) -> PoolsRead
-    ensures { λ r. ⌜ poolsReadOf r ≡ poolsEnd (header .version) (now (file .entry)) (header .«directory_offset») (header .«pool_count») 0 (header .«directory_offset» + header .«pool_count» * 16) ⌝ }
+    ensures { λ r. ⌜ poolsReadOf r ≡ poolsEnd (header .version) (now (file .entry)) (header .«directory_offset») (header .«pool_count») 0 (header .«directory_offset» + header .«pool_count» * entrySize) ⌝ }
 {
     let version = header.version;
     let directory = header.directory_offset;
     let count = header.pool_count;
-    let mut start = directory as usize + count as usize * 16;
+    let mut start = directory as usize + count as usize * ENTRY_SIZE;
     let mut id = 0;
     while id < count {
-        let at = directory as usize + id as usize * 16;
+        let at = directory as usize + id as usize * ENTRY_SIZE;
         let pool = read_pool(file, directory, id);
         match check_pool(file, version, at, id, start, pool) {
             Verdict::Allowed => {

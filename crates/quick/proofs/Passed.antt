@@ -12,7 +12,7 @@ use Rattle.format.specs.Operation.{copyWrong, writeRules, fillRules, copyRules}
 use Rattle.format.specs.Target.{missing, writeLimit, bulkStart, bulkLength, outside, kindFor}
 use Rattle.format.proofs.Checks.{or-false, and-true}
 use Rattle.limit_tables.specs.Limits.{writeEnd, bulkEnd}
-use Rattle.quick_rules.specs.Quick.{outOfBulk, wholeWaves}
+use Rattle.quick_rules.specs.Quick.{outOfBulk, wholeWave}
 
 -- an address before the end: the target is there, and its limit is not passed
 pub write-there : (target : Target) (address : ℕ) → ltb address (writeEnd target) ≡ true → (missing target ≡ false) × (ltb (writeLimit target) address ≡ false)
@@ -53,20 +53,28 @@ fill-passes at target address size e =
     let there = bulk-there target address size e in
     rw (there .0, there .1)
 
+-- a whole wave begins and ends where waves do
+wave-whole : (address source size : ℕ) → wholeWave address source size ≡ true → (eqb (address % 256) 0 && eqb (source % 256) 0 && eqb (size % 256) 0) ≡ true
+unfolding wholeWave
+wave-whole address source size h =
+    let both = and-true (eqb (address % 256) 0 && eqb source 0) _ h in
+    let first = and-true (eqb (address % 256) 0) _ (both .0) in
+    rw (first .0, eqb-true source 0 (first .1), eqb-true size 256 (both .1))
+
 -- the pool of a COPY fits its target
 pub pool-right : (target : Target) (pool : Pool) (address source size : ℕ)
-    → (not (ltb (pool .size) (source + size)) && eqb (pool .kind) (kindFor target) && (not (eqb (kindFor target) 1) || wholeWaves address source size)) ≡ true
+    → (not (ltb (pool .size) (source + size)) && eqb (pool .kind) (kindFor target) && (not (eqb (kindFor target) 1) || wholeWave address source size)) ≡ true
     → copyWrong target pool address source size ≡ false
-unfolding copyWrong wholeWaves
+unfolding copyWrong
 pool-right target pool address source size e =
     let all = and-true (not (ltb (pool .size) (source + size)) && eqb (pool .kind) (kindFor target)) _ e in
     let both = and-true (not (ltb (pool .size) (source + size))) (eqb (pool .kind) (kindFor target)) (all .0) in
     let same : pool .kind ≡ kindFor target = eqb-true _ _ (both .1) in
-    rw (not-true (ltb (pool .size) (source + size)) (both .0), both .1, same) (go (eqb (kindFor target) 1) (eqb (address % 256) 0 && eqb (source % 256) 0 && eqb (size % 256) 0) (all .1))
+    rw (not-true (ltb (pool .size) (source + size)) (both .0), both .1, same) (go (eqb (kindFor target) 1) (all .1))
   where
-    go : (one whole : Bool) → (not one || whole) ≡ true → (one && not whole) ≡ false
-    go true whole h = rw h
-    go false whole h = refl
+    go : (one : Bool) → (not one || wholeWave address source size) ≡ true → (one && not (eqb (address % 256) 0 && eqb (source % 256) 0 && eqb (size % 256) 0)) ≡ false
+    go true h = rw (wave-whole address source size h)
+    go false h = refl
 
 pub copy-passes : (at version pools : ℕ) (target : Target) (address id : ℕ) (pool : Pool) (source size : ℕ) → outOfBulk address size (bulkStart target) (bulkEnd target) ≡ false
     → leb pools id ≡ false → copyWrong target pool address source size ≡ false → copyRules at version pools target address id pool source size ≡ ok tt

@@ -21,7 +21,7 @@ runFrom test marks (suc count) at si22 =
 -- a record that stands at a place up to `last`
 abbrev pub recordTest : List ℕ → List (List ℕ) → (last at : ℕ) → Quick
 recordTest file table last at =
-    let item = decodedRecord (part file at 16) in
+    let item = decodedRecord (part file at operationMost) in
     cond (ltb last at) none (record { passed = recordPasses table item; size = item .size })
 
 -- no record that is passed has target 11
@@ -31,11 +31,11 @@ recordsRun file table last count at = runFrom (recordTest file table last) (λ p
 -- an operation that stands at a place up to `last`
 abbrev pub operationTest : (width : ℕ) → List ℕ → (pools directory : ℕ) → List (List ℕ) → (last at : ℕ) → Quick
 operationTest width file pools directory table last at =
-    cond (ltb last at) none (quickOperation width file pools directory table (part file at 16))
+    cond (ltb last at) none (quickOperation width file pools directory table (part file at operationMost))
 
 -- whether the operation at a place has target 11
 abbrev pub hasSi22 : List ℕ → (at : ℕ) → Bool
-hasSi22 file at = eqb (byte (part file at 16) 1) 11
+hasSi22 file at = eqb (byte (part file at operationMost) 1) 11
 
 abbrev pub operationsFrom : (width : ℕ) → List ℕ → (pools directory : ℕ) → List (List ℕ) → (last count at : ℕ) → Bool → QuickRun
 operationsFrom width file pools directory table last count at si22 =

@@ -12,6 +12,7 @@ ghost use mathlib.Core.Path.{_≡_};
 ghost use mathlib.Core.Bool.{false, _||_};
 ghost use Prim.Native.Nat.{_+_, _≤_};
 ghost use lib.ListN.{length};
+ghost use Rattle.format.specs.Size.{operationMost};
 ghost use Rattle.quick.specs.Run.{recordsRun, operationsFrom, quickRun};
 
 // Where a run of items stops, how many items are left there, and whether one before has target 11.
@@ -34,7 +35,7 @@ pub fn either(a: bool, b: bool) -> bool
 // The records of version 1 that stand at places up to `last`, where the bytes are that hold every item. No record that is passed has
 // target 11.
 fn records_run(file: &[u8], table: &LimitTable, last: usize, count: u32, start: usize) -> QuickRun
-    requires { ⌜ last + 16 ≤ length (now file) ⌝ }
+    requires { ⌜ last + operationMost ≤ length (now file) ⌝ }
     ensures { λ r. ⌜ r ≡ recordsRun (now (file .entry)) (now (table .entry)) last count start ⌝ }
 {
     let mut at = start;
@@ -77,7 +78,7 @@ fn operations_run(
     count: u32,
     start: usize,
 ) -> QuickRun
-    requires { ⌜ (3 ≤ width) × (width ≤ 4) × (last + 16 ≤ length (now file)) ⌝ }
+    requires { ⌜ (3 ≤ width) × (width ≤ 4) × (last + operationMost ≤ length (now file)) ⌝ }
     ensures { λ r. ⌜ r ≡ operationsFrom width (now (file .entry)) pools directory (now (table .entry)) last count start false ⌝ }
 {
     let mut at = start;

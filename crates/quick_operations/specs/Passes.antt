@@ -26,7 +26,7 @@ copyPasses file pools directory limits item =
     cond (outOfBulk (item .address) (item .length) (limits .«bulk_start») (limits .«bulk_end»)) false
     (cond (leb pools (item .pool)) false
     (cond (ltb (length file) (entry + entrySize)) false
-    (poolFits (part file entry 16) (limits .kind) (item .address) (item .source) (item .length))))
+    (poolFits (part file entry entrySize) (limits .kind) (item .address) (item .source) (item .length))))
 
 -- an item whose target has these limits
 unfoldable pub itemPasses : List ℕ → (pools directory : ℕ) → TargetLimits → Decoded → Bool

@@ -2,12 +2,13 @@
 use big_endian::window;
 use fields::Decoded;
 use fields::address_in;
-use fields::length_in;
 use fields::opcode_in;
 use fields::operation_size;
-use fields::pool_in;
-use fields::source_in;
 use fields::target_in;
+use fields_known::copy_length_in;
+use fields_known::copy_pool_in;
+use fields_known::copy_source_in;
+use fields_known::fill_length_in;
 use format::ENTRY_SIZE;
 use limit_tables::LimitTable;
 use limit_tables::TARGETS;
@@ -17,6 +18,7 @@ use quick_rules::out_of_range;
 use quick_rules::pool_fits;
 ghost use mathlib.Core.Path.{_≡_};
 ghost use Prim.Native.Nat.{_≤_};
+ghost use Rattle.format.specs.Bytes.{byte};
 ghost use Rattle.fields.specs.Decoded.{decodedOperation};
 ghost use Rattle.quick_operations.specs.Passes.{writePasses, fillPasses, copyPasses, recordPasses, quickOperation};
 
@@ -46,11 +48,11 @@ fn quick_write(bytes: &[u8], width: usize, limits: TargetLimits) -> bool
 }
 
 fn quick_fill(bytes: &[u8], width: usize, limits: TargetLimits) -> bool
-    requires { ⌜ (3 ≤ width) × (width ≤ 4) ⌝ }
+    requires { ⌜ (3 ≤ width) × (width ≤ 4) × (byte (now bytes) 0 ≡ 1) ⌝ }
     ensures { λ r. ⌜ r ≡ fillPasses limits (decodedOperation width (now (bytes .entry))) ⌝ }
 {
     let address = address_in(bytes, width);
-    let length = length_in(bytes, width);
+    let length = fill_length_in(bytes, width);
     if out_of_range(address, length, limits.bulk_start, limits.bulk_end) {
         return false;
     }
@@ -65,13 +67,13 @@ fn quick_copy(
     directory: u32,
     limits: TargetLimits,
 ) -> bool
-    requires { ⌜ (3 ≤ width) × (width ≤ 4) ⌝ }
+    requires { ⌜ (3 ≤ width) × (width ≤ 4) × (byte (now bytes) 0 ≡ 2) ⌝ }
     ensures { λ r. ⌜ r ≡ copyPasses (now (file .entry)) pools directory limits (decodedOperation width (now (bytes .entry))) ⌝ }
 {
     let address = address_in(bytes, width);
-    let id = pool_in(bytes, width) as u32;
-    let source = source_in(bytes, width);
-    let length = length_in(bytes, width);
+    let id = copy_pool_in(bytes, width) as u32;
+    let source = copy_source_in(bytes, width);
+    let length = copy_length_in(bytes, width);
     if out_of_range(address, length, limits.bulk_start, limits.bulk_end) {
         return false;
     }

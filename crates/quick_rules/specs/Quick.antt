@@ -9,10 +9,11 @@ use Rattle.format.specs.Bytes.{byte, be}
 unfoldable pub outOfBulk : (address size start end : ℕ) → Bool
 outOfBulk address size start end = eqb size 0 || ltb address start || leb end (address + size)
 
-unfoldable pub wholeWaves : (address source size : ℕ) → Bool
-wholeWaves address source size = eqb (address % 256) 0 && eqb (source % 256) 0 && eqb (size % 256) 0
+-- a wave whole, to where one stands
+unfoldable pub wholeWave : (address source size : ℕ) → Bool
+wholeWave address source size = eqb (address % 256) 0 && eqb source 0 && eqb size 256
 
 -- the pool of a COPY, by its entry
 unfoldable pub poolFits : List ℕ → (kind address source size : ℕ) → Bool
 poolFits entry kind address source size =
-    not (ltb (be 4 entry 4) (source + size)) && eqb (byte entry 2) kind && (not (eqb kind 1) || wholeWaves address source size)
+    not (ltb (be 4 entry 4) (source + size)) && eqb (byte entry 2) kind && (not (eqb kind 1) || wholeWave address source size)

@@ -2,7 +2,7 @@
 use big_endian::byte_at;
 use big_endian::read_u32;
 ghost use mathlib.Core.Path.{_≡_};
-ghost use Rattle.quick_rules.specs.Quick.{outOfBulk, wholeWaves, poolFits};
+ghost use Rattle.quick_rules.specs.Quick.{outOfBulk, wholeWave, poolFits};
 
 // Whether a range is empty, starts before another or does not end before `end`.
 pub fn out_of_range(address: u32, length: u32, start: u64, end: u64) -> bool
@@ -24,17 +24,18 @@ pub fn out_of_bulk(address: u32, length: u32, start: u32, end: u64) -> bool
     out_of_range(address, length, start as u64, end)
 }
 
-// Whether three numbers are multiples of 256.
-fn whole_waves(address: u32, source: u32, length: u32) -> bool
-    ensures { λ r. ⌜ r ≡ wholeWaves address source length ⌝ }
+// Whether a COPY takes a wave whole, to where one stands: a pool of kind 1 has 256 bytes, so that no other one is allowed. The numbers are
+// compared whole, because the compiler reads one in a single load only if nothing asks for its last byte alone.
+fn whole_wave(address: u32, source: u32, length: u32) -> bool
+    ensures { λ r. ⌜ r ≡ wholeWave address source length ⌝ }
 {
     if address % 256 != 0 {
         return false;
     }
-    if source % 256 != 0 {
+    if source != 0 {
         return false;
     }
-    length % 256 == 0
+    length == 256
 }
 
 // Whether the pool with an entry has the kind, and the bytes that a COPY takes.
@@ -50,5 +51,5 @@ pub fn pool_fits(entry: &[u8], kind: u64, address: u32, source: u32, length: u32
     if kind != 1 {
         return true;
     }
-    whole_waves(address, source, length)
+    whole_wave(address, source, length)
 }

@@ -5,6 +5,7 @@ use mathlib.Core.List.{List, [], _++_}
 use mathlib.Core.Path.{_≡_}
 use lib.ListN.{length, getD, take}
 use Rattle.format.specs.Repack.{isKnown, placeOf}
+use Rattle.format.specs.Size.{recordSize, waveRecordsSize}
 use Rattle.master.specs.Places.{waveAt}
 use Rattle.master.specs.Result.{pieceBytes, frameWaves, frameBytes, allWaves}
 use Rattle.master.specs.Uses.{usesAt, allUses}
@@ -27,8 +28,8 @@ pub record MeasuredFrame (file : List ℕ) (start count known noted : ℕ) (plac
   pub waves-are : frameWaves (wavesIn file places known) file count start ≡ wavesIn file places′ waves
   pub uses-are : take noted spots ++ usesAt file count start ≡ take uses spots′
   pub size-is : length (pieceBytes 0 [] file count start) ≡ size
-  pub few : waves * 1280 ≤ start + count * 5
-  pub few-uses : uses * 1280 ≤ start + count * 5
+  pub few : waves * waveRecordsSize ≤ start + count * recordSize
+  pub few-uses : uses * waveRecordsSize ≤ start + count * recordSize
   pub small : size ≤ count * 6
 
 -- all frames were measured
@@ -40,4 +41,4 @@ pub record Measured (file : List ℕ) (start count : ℕ) (places′ spots′ nu
   pub small : size ≤ 0x2000000
   pub few : waves ≤ 11468
   pub places-size : length places′ ≡ 11468
-  pub inside : (k : ℕ) → k < waves → getD places′ k 0 + 1280 ≤ length file
+  pub inside : (k : ℕ) → k < waves → getD places′ k 0 + waveRecordsSize ≤ length file

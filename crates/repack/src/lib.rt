@@ -16,6 +16,7 @@ ghost use lib.ListN.{length, set};
 ghost use Rattle.master.specs.Places.{framesEnd};
 ghost use Rattle.wave_table.specs.Table.{Table};
 ghost use Rattle.repack.specs.Measured.{Noted, MeasuredFrame, Measured};
+ghost use Rattle.format.specs.Size.{recordSize, waveRecordsSize, fileLimit};
 
 // One more than the waves that a file can use: behind the last place that is noted stands a 0.
 pub const SPOTS: usize = 11469;
@@ -56,7 +57,7 @@ fn measure_frame(
     numbers: &mut [u16; MOST],
 ) -> Measure
     requires { ⌜ Table (now file) (now heads) (now next) (now places) known × Noted (now file) (now places) (now spots) (now numbers) known noted
-        × (start + count * 5 ≤ length (now file)) × (known * 1280 ≤ start) × (noted * 1280 ≤ start) × (length (now file) ≤ 0xE00000) ⌝ }
+        × (start + count * recordSize ≤ length (now file)) × (known * waveRecordsSize ≤ start) × (noted * waveRecordsSize ≤ start) × (length (now file) ≤ fileLimit) ⌝ }
     ensures { λ r. ⌜ MeasuredFrame (now (file .entry)) start count known noted (now (places .entry)) (now (spots .entry))
         (now (heads .exit)) (now (next .exit)) (now (places .exit)) (now (spots .exit)) (now (numbers .exit)) (r .waves) (r .uses) (r .size) ⌝ }
 {
@@ -96,7 +97,7 @@ pub fn measure_frames(
     spots: &mut [u32; SPOTS],
     numbers: &mut [u16; MOST],
 ) -> Measure
-    requires { ⌜ Table (now file) (now heads) (now next) (now places) 0 × Noted (now file) (now places) (now spots) (now numbers) 0 0 × (framesEnd (now file) count start ≤ length (now file)) × (length (now file) ≤ 0xE00000) ⌝ }
+    requires { ⌜ Table (now file) (now heads) (now next) (now places) 0 × Noted (now file) (now places) (now spots) (now numbers) 0 0 × (framesEnd (now file) count start ≤ length (now file)) × (length (now file) ≤ fileLimit) ⌝ }
     ensures { λ r. ⌜ Measured (now (file .entry)) start count (now (places .exit)) (now (spots .exit)) (now (numbers .exit)) (r .waves) (r .uses) (r .size) ⌝ }
 {
     let mut at = start;

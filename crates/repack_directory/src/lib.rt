@@ -8,10 +8,11 @@ ghost use Prim.Native.Nat.{_+_, _*_, _≤_, _<_};
 ghost use lib.ListN.{length};
 ghost use Rattle.big_endian.specs.Put.{put};
 ghost use Rattle.repack_directory.specs.Directory.{waveEntries, directoryOf};
+ghost use Rattle.format.specs.Size.{entrySize};
 
 // The entries of so many waves, from an id on.
 fn put_wave_entries(buffer: &mut [u8], at: usize, id: usize, count: usize, start: usize)
-    requires { ⌜ (at + count * 16 ≤ length (now buffer)) × (id + count < 65536) × (start + count * 256 < 4294967296) ⌝ }
+    requires { ⌜ (at + count * entrySize ≤ length (now buffer)) × (id + count < 65536) × (start + count * 256 < 4294967296) ⌝ }
     ensures { λ _. ⌜ now (buffer .exit) ≡ put (waveEntries id start count) at (now (buffer .entry)) ⌝ }
 {
     let mut place = at;

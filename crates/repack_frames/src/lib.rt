@@ -16,6 +16,7 @@ ghost use mathlib.Core.Path.{_≡_};
 ghost use Prim.Native.Nat.{_+_, _*_, _≤_, _<_};
 ghost use lib.ListN.{length, getD};
 ghost use Rattle.format.specs.Bytes.{be};
+ghost use Rattle.format.specs.Size.{recordSize};
 ghost use Rattle.big_endian.specs.Put.{put};
 ghost use Rattle.master.specs.Places.{framesEnd};
 ghost use Rattle.master.specs.Result.{pieceCount};
@@ -48,7 +49,7 @@ fn put_pieces(
     buffer: &mut [u8],
     at: usize,
 ) -> Pieces
-    requires { ⌜ Lists (now spots) (now numbers) × Marked (now file) (now spots) used count start × (0 < start) × (start + count * 5 ≤ length (now file)) × (base ≤ 1)
+    requires { ⌜ Lists (now spots) (now numbers) × Marked (now file) (now spots) used count start × (0 < start) × (start + count * recordSize ≤ length (now file)) × (base ≤ 1)
         × (at + length (piecesBy (now numbers) base used (now file) count start) ≤ length (now buffer)) ⌝ }
     ensures { λ r. ⌜ (now (buffer .exit) ≡ put (piecesBy (now (numbers .entry)) base used (now (file .entry)) count start) at (now (buffer .entry)))
         × (r .count ≡ pieceCount (now (file .entry)) count start) × (r .next ≡ at + length (piecesBy (now (numbers .entry)) base used (now (file .entry)) count start))
@@ -96,7 +97,7 @@ fn put_frame(
     at: usize,
 ) -> Pieces
     requires { ⌜ Lists (now spots) (now numbers) × Marked (now file) (now spots) used (be 2 (now file) from) (from + 2)
-        × (from + 2 + be 2 (now file) from * 5 ≤ length (now file)) × (base ≤ 1)
+        × (from + 2 + be 2 (now file) from * recordSize ≤ length (now file)) × (base ≤ 1)
         × (at + length (frameBy (now numbers) base used (now file) from) ≤ length (now buffer)) ⌝ }
     ensures { λ r. ⌜ (now (buffer .exit) ≡ put (frameBy (now (numbers .entry)) base used (now (file .entry)) from) at (now (buffer .entry)))
         × (r .next ≡ at + length (frameBy (now (numbers .entry)) base used (now (file .entry)) from))

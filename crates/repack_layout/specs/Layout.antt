@@ -7,7 +7,7 @@ use Rattle.format.specs.declared.header.Header.{Header}
 use Rattle.format.specs.Bytes.{bytesOfAll}
 use Rattle.format.specs.Operation.{sizeOf}
 use Rattle.format.specs.Repack.{pcmFill}
-use Rattle.format.specs.Size.{pooledHeaderSize, entrySize, waveSize, fileLimit}
+use Rattle.format.specs.Size.{recordSize, masterHeaderSize, pooledHeaderSize, entrySize, waveSize, fileLimit}
 use Rattle.format.specs.Written.{headerFields}
 use Rattle.master.specs.Places.{framesEnd}
 use Rattle.master.specs.Result.{pcmBytes}
@@ -56,24 +56,24 @@ newHeader header layout =
 
 -- a master that was measured
 pub record Known (file : List ℕ) (header : Header) (places spots numbers : List ℕ) (pcm waves uses size : ℕ) : Type 0 where
-  pub pcm-is : length (pcmBytes file (header .«initial_count») 20) ≡ pcm
-  pub measured : Measured file (20 + header .«initial_count» * 5) (header .«frame_count») places spots numbers waves uses size
-  pub opening-fits : 20 + header .«initial_count» * 5 ≤ length file
-  pub frames-fit : framesEnd file (header .«frame_count») (20 + header .«initial_count» * 5) ≤ length file
+  pub pcm-is : length (pcmBytes file (header .«initial_count») masterHeaderSize) ≡ pcm
+  pub measured : Measured file (masterHeaderSize + header .«initial_count» * recordSize) (header .«frame_count») places spots numbers waves uses size
+  pub opening-fits : masterHeaderSize + header .«initial_count» * recordSize ≤ length file
+  pub frames-fit : framesEnd file (header .«frame_count») (masterHeaderSize + header .«initial_count» * recordSize) ≤ length file
   pub small : length file ≤ fileLimit
 
 -- the header, the directory and the payloads
 unfoldable pub frontOf : (file : List ℕ) (header : Header) (pcm waves : ℕ) (layout : Layout) (places : List ℕ) → List ℕ
 frontOf file header pcm waves layout places =
     bytesOfAll (headerFields (newHeader header layout))
-    ++ (directoryOf pcm waves (layout .payloads) ++ (pcmBytes file (header .«initial_count») 20 ++ wavesBytes file places 0 waves))
+    ++ (directoryOf pcm waves (layout .payloads) ++ (pcmBytes file (header .«initial_count») masterHeaderSize ++ wavesBytes file places 0 waves))
 
 -- they fit
 pub record FrontFits (file : List ℕ) (header : Header) (pcm waves : ℕ) (layout : Layout) (places buffer : List ℕ) : Type 0 where
-  pub pcm-is : length (pcmBytes file (header .«initial_count») 20) ≡ pcm
-  pub records-fit : 20 + header .«initial_count» * 5 ≤ length file
+  pub pcm-is : length (pcmBytes file (header .«initial_count») masterHeaderSize) ≡ pcm
+  pub records-fit : masterHeaderSize + header .«initial_count» * recordSize ≤ length file
   pub waves-inside : AllInside file places waves
-  pub payloads-at : layout .payloads ≡ 40 + (pcmPool pcm + waves) * 16
+  pub payloads-at : layout .payloads ≡ pooledHeaderSize + (pcmPool pcm + waves) * entrySize
   pub opening-at : layout .opening ≡ layout .payloads + (pcm + waves * 256)
   pub frames-at : layout .opening ≤ layout .frames
   pub end-at : layout .frames ≤ layout .total

@@ -13,6 +13,7 @@ ghost use Prim.Native.Nat.{_*_, _≤_};
 ghost use lib.ListN.{length};
 ghost use Rattle.format.specs.Operation.{sizeOf};
 ghost use Rattle.format.specs.Repack.{pcmFill};
+ghost use Rattle.format.specs.Size.{fileLimit};
 ghost use Rattle.repack_layout.specs.Layout.{pcmPool, layoutOf, newHeader};
 
 // How many pools and opening operations there are, where payloads, opening and frames start, and where the file ends.
@@ -50,7 +51,7 @@ fn fill_count(pcm: usize) -> usize
 
 // How many bytes so many WRITEs take.
 fn writes_size(count: usize) -> usize
-    requires { ⌜ count ≤ 0xE00000 ⌝ }
+    requires { ⌜ count ≤ fileLimit ⌝ }
     ensures { λ r. ⌜ (r ≡ count * sizeOf 3 0) × (r ≤ 0x10000000) ⌝ }
 {
     count * operation_size(WIDTH, 0)
@@ -58,7 +59,7 @@ fn writes_size(count: usize) -> usize
 
 // The layout of a master of so many opening records, of which so many go to PCM, with so many waves; its frames take `size` bytes.
 pub fn lay_out(records: usize, pcm: usize, waves: usize, size: usize) -> Layout
-    requires { ⌜ (pcm ≤ records) × (records ≤ 0xE00000) × (waves ≤ 11468) × (size ≤ 0x2000000) ⌝ }
+    requires { ⌜ (pcm ≤ records) × (records ≤ fileLimit) × (waves ≤ 11468) × (size ≤ 0x2000000) ⌝ }
     ensures { λ r. ⌜ r ≡ layoutOf records pcm waves size ⌝ }
 {
     let cores = records - pcm;
@@ -78,7 +79,7 @@ pub fn lay_out(records: usize, pcm: usize, waves: usize, size: usize) -> Layout
 
 // The header of a repacked file.
 pub fn new_header(header: Header, layout: Layout) -> Header
-    requires { ⌜ (layout .total ≤ 0xE00000) × (layout .opening ≤ layout .total) × (layout .pools ≤ layout .total) × (layout .operations ≤ layout .total) ⌝ }
+    requires { ⌜ (layout .total ≤ fileLimit) × (layout .opening ≤ layout .total) × (layout .pools ≤ layout .total) × (layout .operations ≤ layout .total) ⌝ }
     ensures { λ r. ⌜ r ≡ newHeader header layout ⌝ }
 {
     Header {

@@ -4,6 +4,7 @@ use mathlib.Core.List.{List, _++_}
 use Rattle.format.specs.Checked.{Checked, ok, refused}
 use Rattle.format.specs.Repack.{pcmFill, pcmCopy}
 use Rattle.format.specs.Written.{operationsBytes}
+use Rattle.format.specs.Size.{masterHeaderSize}
 use Rattle.master.specs.Result.{coreBytes}
 use Rattle.repack_opening.specs.declared.PcmRun.{PcmRun}
 use Rattle.repack_opening.specs.declared.PcmRun.the-variants.{InOrder, OutOfOrder}
@@ -15,7 +16,7 @@ unfoldable pub copyPart : (pcm : ℕ) → List ℕ
 copyPart pcm = operationsBytes 2 (pcmCopy pcm)
 
 unfoldable pub openingPart : (file : List ℕ) → (count pcm : ℕ) → List ℕ
-openingPart file count pcm = fillPart pcm ++ (coreBytes file count 20 ++ copyPart pcm)
+openingPart file count pcm = fillPart pcm ++ (coreBytes file count masterHeaderSize ++ copyPart pcm)
 
 -- what is said of the opening's PCM records
 abbrev pub pcmIn : PcmRun → Checked ℕ

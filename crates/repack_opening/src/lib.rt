@@ -16,6 +16,7 @@ ghost use Rattle.big_endian.specs.Put.{put};
 ghost use Rattle.master.specs.Places.{recordsAt};
 ghost use Rattle.master.specs.Result.{pcmFrom, coreBytes};
 ghost use Rattle.repack_opening.specs.Opening.{fillPart, copyPart, openingPart, pcmIn};
+ghost use Rattle.format.specs.Size.{recordSize, masterHeaderSize};
 
 // The opening's PCM records: how many there are, if their addresses run 0, 1, 2 and so on.
 pub enum PcmRun {
@@ -25,7 +26,7 @@ pub enum PcmRun {
 
 // The PCM records of an opening of so many records.
 pub fn pcm_run(file: &[u8], count: usize) -> PcmRun
-    requires { ⌜ 20 + count * 5 ≤ length (now file) ⌝ }
+    requires { ⌜ masterHeaderSize + count * recordSize ≤ length (now file) ⌝ }
     ensures { λ r. ⌜ pcmIn r ≡ pcmFrom 0 (recordsAt (now (file .entry)) count 20) ⌝ }
 {
     let mut at = MASTER_HEADER_SIZE;
@@ -102,7 +103,7 @@ fn put_pcm_copy(buffer: &mut [u8], at: usize, pcm: usize)
 
 // The core records of an opening of so many records, as WRITEs.
 fn put_cores(file: &[u8], count: usize, buffer: &mut [u8], at: usize) -> usize
-    requires { ⌜ (20 + count * 5 ≤ length (now file)) × (at + length (coreBytes (now file) count 20) ≤ length (now buffer)) ⌝ }
+    requires { ⌜ (masterHeaderSize + count * recordSize ≤ length (now file)) × (at + length (coreBytes (now file) count masterHeaderSize) ≤ length (now buffer)) ⌝ }
     ensures { λ r. ⌜ (now (buffer .exit) ≡ put (coreBytes (now (file .entry)) count 20) at (now (buffer .entry))) × (r ≡ at + length (coreBytes (now (file .entry)) count 20)) ⌝ }
 {
     let write = operation_size(WIDTH, 0);
@@ -122,7 +123,7 @@ fn put_cores(file: &[u8], count: usize, buffer: &mut [u8], at: usize) -> usize
 
 // The opening.
 pub fn put_opening(file: &[u8], count: usize, pcm: usize, buffer: &mut [u8], at: usize)
-    requires { ⌜ (20 + count * 5 ≤ length (now file)) × (at + length (openingPart (now file) count pcm) ≤ length (now buffer)) × (pcm < 4294967296) ⌝ }
+    requires { ⌜ (masterHeaderSize + count * recordSize ≤ length (now file)) × (at + length (openingPart (now file) count pcm) ≤ length (now buffer)) × (pcm < 4294967296) ⌝ }
     ensures { λ _. ⌜ now (buffer .exit) ≡ put (openingPart (now (file .entry)) count pcm) at (now (buffer .entry)) ⌝ }
 {
     let cores = at + fill_size(pcm);

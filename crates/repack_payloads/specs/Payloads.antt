@@ -3,6 +3,7 @@ use Prim.Native.Nat.{ℕ, zero, suc, _+_, _≤_, _<_}
 use mathlib.Core.List.{List, [], _++_}
 use lib.ListN.{length, getD}
 use Rattle.master.specs.Places.{waveAt}
+use Rattle.format.specs.Size.{waveRecordsSize}
 
 -- so many waves of the table from one on
 unfoldable pub wavesBytes : (file places : List ℕ) → (wave count : ℕ) → List ℕ
@@ -11,4 +12,4 @@ wavesBytes file places wave (suc count) = waveAt file (getD places wave 0) ++ wa
 
 -- the first so many waves of the table lie in the file
 abbrev pub AllInside : (file places : List ℕ) → (count : ℕ) → Type 0
-AllInside file places count = (count ≤ 11468) × ((k : ℕ) → k < count → getD places k 0 + 1280 ≤ length file)
+AllInside file places count = (count ≤ 11468) × ((k : ℕ) → k < count → getD places k 0 + waveRecordsSize ≤ length file)

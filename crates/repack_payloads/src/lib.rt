@@ -10,10 +10,11 @@ ghost use Rattle.big_endian.specs.Put.{put};
 ghost use Rattle.master.specs.Places.{waveAt};
 ghost use Rattle.master.specs.Result.{pcmBytes};
 ghost use Rattle.repack_payloads.specs.Payloads.{wavesBytes, AllInside};
+ghost use Rattle.format.specs.Size.{recordSize, masterHeaderSize, waveRecordsSize};
 
 // The values of the PCM records of an opening of so many records.
 pub fn put_pcm(file: &[u8], count: usize, buffer: &mut [u8], at: usize)
-    requires { ⌜ (20 + count * 5 ≤ length (now file)) × (at + length (pcmBytes (now file) count 20) ≤ length (now buffer)) ⌝ }
+    requires { ⌜ (masterHeaderSize + count * recordSize ≤ length (now file)) × (at + length (pcmBytes (now file) count masterHeaderSize) ≤ length (now buffer)) ⌝ }
     ensures { λ _. ⌜ now (buffer .exit) ≡ put (pcmBytes (now (file .entry)) count 20) at (now (buffer .entry)) ⌝ }
 {
     let mut from = MASTER_HEADER_SIZE;
@@ -31,7 +32,7 @@ pub fn put_pcm(file: &[u8], count: usize, buffer: &mut [u8], at: usize)
 
 // The values of a wave's records.
 fn put_wave(file: &[u8], start: usize, buffer: &mut [u8], at: usize)
-    requires { ⌜ (start + 1280 ≤ length (now file)) × (at + 256 ≤ length (now buffer)) ⌝ }
+    requires { ⌜ (start + waveRecordsSize ≤ length (now file)) × (at + 256 ≤ length (now buffer)) ⌝ }
     ensures { λ _. ⌜ now (buffer .exit) ≡ put (waveAt (now (file .entry)) start) at (now (buffer .entry)) ⌝ }
 {
     let mut from = start;

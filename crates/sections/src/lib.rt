@@ -1,4 +1,7 @@
 // What the rules 8, 9 and 12 refuse: the counts and the total size, the directory, and the places of opening and frames.
+use format::CARD_SIZE;
+use format::ENTRY_SIZE;
+use format::FILE_LIMIT;
 use format::Header;
 use header_rules::header_size;
 ghost use mathlib.Core.Path.{_≡_};
@@ -12,7 +15,7 @@ pub fn counts_wrong(header: Header, length: usize) -> bool
     if header.frame_count == 0 {
         return true;
     }
-    if 0xE00000 < header.total_size {
+    if FILE_LIMIT < header.total_size {
         return true;
     }
     if header.total_size as usize != length {
@@ -21,7 +24,7 @@ pub fn counts_wrong(header: Header, length: usize) -> bool
     if 65536 < header.pool_count {
         return true;
     }
-    let behind = header_size(header.version) + header.card_count as usize * 32;
+    let behind = header_size(header.version) + header.card_count as usize * CARD_SIZE;
     header.directory_offset as usize != behind
 }
 
@@ -29,7 +32,7 @@ pub fn counts_wrong(header: Header, length: usize) -> bool
 pub fn directory_wrong(header: Header, length: usize) -> bool
     ensures { λ r. ⌜ r ≡ directoryWrong header length ⌝ }
 {
-    length < header.directory_offset as usize + header.pool_count as usize * 16
+    length < header.directory_offset as usize + header.pool_count as usize * ENTRY_SIZE
 }
 
 // What rule 12 refuses.

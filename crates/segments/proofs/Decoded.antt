@@ -15,7 +15,7 @@ use Rattle.format.specs.Player.{settingIn}
 use Rattle.format.proofs.Checks.{cond-false}
 use Rattle.format.proofs.Steps.{sizeHere, record-is, operation-is}
 use Rattle.segments.specs.declared.place.Place.{Place}
-use Rattle.segments.specs.Decoded.{recordDecoded, operationDecoded, decoded}
+use Rattle.item_span.specs.Decoded.{recordDecoded, operationDecoded, decoded}
 use Rattle.segments.specs.Turn.{turnOf, turn, operationTurn}
 
 module _ (setting : Setting) (file : List ℕ) (limit at : ℕ) (item : Item) (within : limit ≤ length file) where

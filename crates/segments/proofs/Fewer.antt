@@ -11,7 +11,7 @@ use Rattle.format.specs.Operation.{Item}
 use Rattle.format.specs.Pace.{countOf}
 use Rattle.segments.specs.declared.place.Place.{Place}
 use Rattle.segments.specs.declared.place.Turn.{Turn}
-use Rattle.segments.specs.Decoded.{decoded}
+use Rattle.item_span.specs.Decoded.{decoded}
 use Rattle.segments.specs.Operation.{unplayable}
 use Rattle.segments.specs.Turn.{closingTurn, operationTurn, turnOf, turn}
 

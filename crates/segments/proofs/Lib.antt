@@ -1,3 +1,3 @@
 pub mod Fewer
-pub mod Spans
+pub mod SpanTurns
 pub mod Decoded

@@ -1,6 +1,5 @@
 pub mod Place
 pub mod Closing
 pub mod Operation
-pub mod Decoded
 pub mod Turn
-pub mod Span
+pub mod SpanTurn

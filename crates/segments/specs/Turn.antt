@@ -12,7 +12,7 @@ use Rattle.segments.specs.declared.place.Place.{Place}
 use Rattle.segments.specs.declared.place.Turn.{Turn}
 use Rattle.segments.specs.Place.{oneValue, stopped, onward, runPlace}
 use Rattle.segments.specs.Closing.{closingSegment}
-use Rattle.segments.specs.Decoded.{decoded}
+use Rattle.item_span.specs.Decoded.{decoded}
 use Rattle.segments.specs.Operation.{unplayable, segmentOf}
 
 -- there is no next segment

@@ -1,8 +1,6 @@
 // The records of a vsync call as segments, one after the other. Nothing is stored here.
 mod closing;
-mod decode;
 mod place;
-mod span;
 mod turn;
 
 pub use place::Place;

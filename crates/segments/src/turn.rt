@@ -1,18 +1,18 @@
 // One segment of a call's records, and the place behind it. A turn of an operation is made at one place: the count and the place behind
 // the segment are chosen first.
 use crate::closing::closing_segment;
-use crate::decode::read_span;
 use crate::place::Place;
 use crate::place::Turn;
 use crate::place::less;
 use crate::place::one_value;
 use crate::place::onward;
 use crate::place::stopped;
-use crate::span::Span;
 use format::StreamPlayer;
+use item_span::Span;
+use item_span::read_span;
 use writes::Segment;
 ghost use mathlib.Core.Path.{_≡_};
-ghost use Rattle.segments.specs.Span.{ended, fitted, fromBehind, behind, spanTurn};
+ghost use Rattle.segments.specs.SpanTurn.{ended, fitted, fromBehind, behind, spanTurn};
 ghost use Rattle.segments.specs.Turn.{halted, closingTurn, turn};
 
 // There is no next segment.

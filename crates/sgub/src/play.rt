@@ -7,7 +7,7 @@ ghost use mathlib.Core.Path.{_≡_};
 ghost use Rattle.format.specs.State.{started};
 ghost use Rattle.format.specs.Stream.{read};
 ghost use Rattle.start.specs.Start.{verdictOn};
-ghost use Rattle.player.specs.Vsync.{Advanced};
+ghost use Rattle.planned_vsync.specs.Vsync.{Advanced};
 ghost use Rattle.sgub.specs.Play.{startFields};
 
 // The verdict on a file, and the player's state; that of a refused file is finished.

@@ -1,8 +1,5 @@
-// A player's state: made, moved on, and asked for a wave source. No other crate makes a progress or says what a vsync plays next.
-mod next;
-mod position;
+// A player's state and its progress: made, moved on, and asked for a wave source. No other crate makes a progress.
 mod progress;
-mod store;
 
 use format::CardRequirement;
 use format::CardTable;
@@ -11,22 +8,12 @@ use format::Part;
 use format::Progress;
 use format::StreamPlayer;
 use format::WaveSource;
-pub use next::closing_count;
-pub use next::next_part;
-pub use next::opening_limit;
-pub use next::operations_left;
-pub use position::between_at;
-pub use position::frame_from;
-pub use position::onward_to;
-pub use position::opening_from;
-pub use position::position_of;
 pub use progress::closing_at;
 pub use progress::frame_begun;
 pub use progress::frame_ended;
 pub use progress::opening_begun;
 pub use progress::placed;
 pub use progress::unplayed;
-pub use store::store_position;
 ghost use mathlib.Core.List.{[]};
 ghost use mathlib.Core.Path.{_≡_};
 ghost use Rattle.format.specs.State.{noCard, tableOf, partOf, refusedPlayer, moved, waveSource};

@@ -1,14 +1,14 @@
 // A player's progress by value: made at a position, begun, moved on and ended.
-use crate::position::between_at;
-use crate::position::closing_behind;
-use crate::position::frame_from;
-use crate::position::onward_to;
-use crate::position::opening_from;
-use crate::position::position_of;
 use format::Header;
 use format::Position;
 use format::Progress;
 use format::WaveSource;
+use position::between_at;
+use position::closing_behind;
+use position::frame_from;
+use position::onward_to;
+use position::opening_from;
+use position::position_of;
 ghost use mathlib.Core.Bool.{true, false};
 ghost use mathlib.Core.Path.{_≡_};
 ghost use Rattle.format.specs.Player.{placed, openingBegun, frameEnded, closingAt};

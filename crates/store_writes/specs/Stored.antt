@@ -6,12 +6,13 @@ use lib.Dec.{ltb}
 use lib.ListN.{length}
 use Rattle.format.specs.declared.operation.WriteRecord.{WriteRecord}
 use Rattle.format.specs.Lent.{stored}
+use Rattle.format.specs.Size.{operationMost}
 use Rattle.plain_writes.specs.Plain.{plainSize, plainWrites}
 
 -- how many: all of them if they fit into the run, and their WRITEs into the file with 16 bytes from the last one on, and else none
 unfoldable pub storable : (room size version from count : ℕ) → ℕ
 storable room size version from count =
-    cond (ltb room count || ltb (size + plainSize version) (from + count * plainSize version + 16)) 0 count
+    cond (ltb room count || ltb (size + plainSize version) (from + count * plainSize version + operationMost)) 0 count
 
 -- they stand at the run's front
 unfoldable pub writesStored : List ℕ → (version from count : ℕ) → List WriteRecord → List WriteRecord

@@ -5,12 +5,14 @@ use fields::address_width;
 use fields::decode_record;
 use fields::target_in;
 use fields_known::write_value_in;
+use format::OPERATION_MOST;
 use format::WriteRecord;
 use plain_writes::plain_size;
 ghost use mathlib.Core.Path.{_≡_};
 ghost use Prim.Native.Nat.{_+_, _*_, _≤_};
 ghost use lib.ListN.{length};
 ghost use Rattle.plain_writes.specs.Plain.{plainSize, plainWrite};
+ghost use Rattle.format.specs.Size.{operationMost};
 ghost use Rattle.store_writes.specs.Stored.{storable, writesStored};
 
 // How many of the writes are stored: all of them if they fit into the run, and their WRITEs into the file with 16 bytes from the
@@ -25,7 +27,7 @@ fn storable(room: usize, size: usize, version: u8, from: usize, count: u32) -> u
     if size < from {
         return 0;
     }
-    if size - from < count as usize * step + 16 - step {
+    if size - from < count as usize * step + OPERATION_MOST - step {
         return 0;
     }
     count as usize
@@ -33,7 +35,7 @@ fn storable(room: usize, size: usize, version: u8, from: usize, count: u32) -> u
 
 // The write of a plain WRITE, by its index from a place on.
 fn nth_write(file: &[u8], version: u8, from: usize, index: usize) -> WriteRecord
-    requires { ⌜ from + index * plainSize version + 16 ≤ length (now file) ⌝ }
+    requires { ⌜ from + index * plainSize version + operationMost ≤ length (now file) ⌝ }
     ensures { λ r. ⌜ r ≡ plainWrite version (now (file .entry)) (from + index * plainSize version) ⌝ }
 {
     let bytes = window(file, from + index * plain_size(version));

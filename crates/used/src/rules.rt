@@ -1,6 +1,7 @@
 // The rules 7, 9 and 11 for the card and the pool that an operation uses.
 use cards::one_card_wrong;
 use format::CardTable;
+use format::ENTRY_SIZE;
 use format::Header;
 use format::Operation;
 use format::Target;
@@ -50,7 +51,7 @@ fn card_wrong(version: u8, cards: CardTable, target: u8) -> bool
 fn pool_past(file: &[u8], directory: u32, pools: u32, id: u16) -> bool
     ensures { λ r. ⌜ refuse 25 0 r ≡ as25 (poolUsed (now (file .entry)) directory pools id) ⌝ }
 {
-    if file.len() < directory as usize + pools as usize * 16 {
+    if file.len() < directory as usize + pools as usize * ENTRY_SIZE {
         return true;
     }
     let pool = read_pool(file, directory, id as u32);

@@ -5,12 +5,13 @@ ghost use mathlib.Core.Path.{_≡_};
 ghost use Prim.Native.Nat.{_+_, _≤_, _<_};
 ghost use lib.ListN.{length};
 ghost use Rattle.format.specs.Bytes.{sameBytes};
+ghost use Rattle.format.specs.Size.{waveRecordsSize};
 ghost use Rattle.master.specs.Places.{waveAt};
 ghost use Rattle.wave_hash.specs.Hash.{mixed, bucketAt};
 
 // Whether two waves have the same bytes.
 pub fn same_wave(file: &[u8], a: usize, b: usize) -> bool
-    requires { ⌜ (a + 1280 ≤ length (now file)) × (b + 1280 ≤ length (now file)) ⌝ }
+    requires { ⌜ (a + waveRecordsSize ≤ length (now file)) × (b + waveRecordsSize ≤ length (now file)) ⌝ }
     ensures { λ r. ⌜ r ≡ sameBytes (waveAt (now (file .entry)) a) (waveAt (now (file .entry)) b) ⌝ }
 {
     let mut left = WAVE_SIZE;
@@ -45,7 +46,7 @@ fn mix(hash: u64, a: u8, b: u8, c: u8, d: u8) -> u64
 
 // The bucket of a wave.
 pub fn bucket(file: &[u8], at: usize) -> usize
-    requires { ⌜ at + 1280 ≤ length (now file) ⌝ }
+    requires { ⌜ at + waveRecordsSize ≤ length (now file) ⌝ }
     ensures { λ r. ⌜ r ≡ bucketAt (now (file .entry)) at ⌝ }
 {
     let mut hash = 0;

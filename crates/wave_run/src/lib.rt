@@ -8,11 +8,12 @@ ghost use mathlib.Core.Path.{_≡_};
 ghost use Prim.Native.Nat.{_+_, _*_, _≤_, _<_};
 ghost use lib.ListN.{length};
 ghost use Rattle.format.specs.Repack.{runs, startsWave};
+ghost use Rattle.format.specs.Size.{recordSize, waveRecordsSize};
 ghost use Rattle.master.specs.Places.{recordsAt};
 
 // Whether 256 records go to one target at consecutive addresses. Target and address of a record are compared as one number.
 fn runs_on(records: &[u8], target: u8, address: u32) -> bool
-    requires { ⌜ (length (now records) ≡ 1280) × (target < 2) × (address < 0x800) ⌝ }
+    requires { ⌜ (length (now records) ≡ waveRecordsSize) × (target < 2) × (address < 0x800) ⌝ }
     ensures { λ r. ⌜ r ≡ runs 256 target address (recordsAt (now (records .entry)) 256 0) ⌝ }
 {
     let mut left = WAVE_SIZE;
@@ -31,7 +32,7 @@ fn runs_on(records: &[u8], target: u8, address: u32) -> bool
 
 // Whether a wave starts at a place with so many records of its frame left.
 pub fn starts_wave(file: &[u8], at: usize, left: usize) -> bool
-    requires { ⌜ at + left * 5 ≤ length (now file) ⌝ }
+    requires { ⌜ at + left * recordSize ≤ length (now file) ⌝ }
     ensures { λ r. ⌜ r ≡ startsWave (recordsAt (now (file .entry)) left at) ⌝ }
 {
     if left < WAVE_SIZE {

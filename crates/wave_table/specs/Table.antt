@@ -7,6 +7,7 @@ use lib.Dec.{eqb}
 use lib.ListN.{length, getD, take}
 use Rattle.format.specs.Bytes.{sameBytes}
 use Rattle.format.specs.Repack.{isKnown, added, placeOf}
+use Rattle.format.specs.Size.{waveRecordsSize}
 use Rattle.master.specs.Places.{waveAt}
 use Rattle.wave_hash.specs.Hash.{bucketAt}
 
@@ -32,14 +33,14 @@ pub record Table (file heads next places : List ℕ) (count : ℕ) : Type 0 wher
   pub few : count ≤ 11468
   pub heads-are : (b : ℕ) → b < 16384 → getD heads b 0 ≡ latest file places b count
   pub next-are : (k : ℕ) → k < count → getD next k 0 ≡ latest file places (bucketAt file (getD places k 0)) k
-  pub inside : (k : ℕ) → k < count → getD places k 0 + 1280 ≤ length file
+  pub inside : (k : ℕ) → k < count → getD places k 0 + waveRecordsSize ≤ length file
   pub fresh : (k : ℕ) → k < count → isKnown (wavesIn file places k) (waveAt file (getD places k 0)) ≡ false
 
 -- a chain from a wave of a bucket, counted from 1, backward; 0 is its end
 pub record Chain (file next places : List ℕ) (bucket first : ℕ) : Type 0 where
   pub last : latest file places bucket first ≡ first
   pub next-are : (k : ℕ) → k < first → getD next k 0 ≡ latest file places (bucketAt file (getD places k 0)) k
-  pub inside : (k : ℕ) → k < first → getD places k 0 + 1280 ≤ length file
+  pub inside : (k : ℕ) → k < first → getD places k 0 + waveRecordsSize ≤ length file
 
 -- the table after the wave at a place was added, and the wave's number
 pub record Added (file places : List ℕ) (count at : ℕ) (heads′ next′ places′ : List ℕ) (count′ number : ℕ) : Type 0 where

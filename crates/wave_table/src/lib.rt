@@ -6,6 +6,7 @@ ghost use mathlib.Core.Path.{_≡_};
 ghost use Prim.Native.Nat.{_+_, _*_, _≤_, _<_};
 ghost use lib.ListN.{length};
 ghost use Rattle.format.specs.Repack.{placeOf};
+ghost use Rattle.format.specs.Size.{waveRecordsSize, fileLimit};
 ghost use Rattle.master.specs.Places.{waveAt};
 ghost use Rattle.wave_hash.specs.Hash.{bucketAt};
 ghost use Rattle.wave_table.specs.Table.{wavesIn, found, Chain, Table, Added};
@@ -23,7 +24,7 @@ fn find_wave(
     next: &[u16; MOST],
     places: &[u32; MOST],
 ) -> usize
-    requires { ⌜ Chain (now file) (now next) (now places) (bucketAt (now file) at) first × (at + 1280 ≤ length (now file)) × (first ≤ 11468) ⌝ }
+    requires { ⌜ Chain (now file) (now next) (now places) (bucketAt (now file) at) first × (at + waveRecordsSize ≤ length (now file)) × (first ≤ 11468) ⌝ }
     ensures { λ r. ⌜ r ≡ found (now (file .entry)) (now (places .entry)) at first ⌝ }
 {
     let mut i = first;
@@ -47,7 +48,7 @@ fn wave_number(
     next: &[u16; MOST],
     places: &[u32; MOST],
 ) -> usize
-    requires { ⌜ Table (now file) (now heads) (now next) (now places) count × (bucket ≡ bucketAt (now file) at) × (at + 1280 ≤ length (now file)) ⌝ }
+    requires { ⌜ Table (now file) (now heads) (now next) (now places) count × (bucket ≡ bucketAt (now file) at) × (at + waveRecordsSize ≤ length (now file)) ⌝ }
     ensures { λ r. ⌜ r ≡ placeOf (wavesIn (now (file .entry)) (now (places .entry)) count) (waveAt (now (file .entry)) at) ⌝ }
 {
     let first = heads[bucket] as usize;
@@ -73,7 +74,7 @@ pub fn add_wave(
     next: &mut [u16; MOST],
     places: &mut [u32; MOST],
 ) -> Numbered
-    requires { ⌜ Table (now file) (now heads) (now next) (now places) count × (at + 1280 ≤ length (now file)) × (count * 1280 ≤ at) × (length (now file) ≤ 0xE00000) ⌝ }
+    requires { ⌜ Table (now file) (now heads) (now next) (now places) count × (at + waveRecordsSize ≤ length (now file)) × (count * waveRecordsSize ≤ at) × (length (now file) ≤ fileLimit) ⌝ }
     ensures { λ r. ⌜ Added (now (file .entry)) (now (places .entry)) count at (now (heads .exit)) (now (next .exit)) (now (places .exit)) (r .waves) (r .number) ⌝ }
 {
     let bucket = bucket(file, at);

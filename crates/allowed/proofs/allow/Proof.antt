@@ -1,4 +1,4 @@
--- `allowed::allow` meets its contract. Assumes nothing.
+-- `allowed::allow` meets its contract: an allowed verdict gives the operation with the place behind it, and a refusal is passed on.
 use borrow.Author.Needs.{needs}
 use Rattle.allowed.proofs.allow.Statement.{statement}
 use Rattle.allowed.proofs.allow.Tie as tie

@@ -1,4 +1,4 @@
--- `allowed::check_operation` meets its contract. Assumes nothing.
+-- `allowed::check_operation` meets its contract: in each arm the check that is called has the rules of that operation as its contract.
 use borrow.Author.Needs.{needs}
 use Rattle.allowed.proofs.check_operation.Statement.{statement}
 use Rattle.allowed.proofs.check_operation.Tie as tie

@@ -1,4 +1,4 @@
--- `allowed::target_number` meets its contract. Assumes nothing.
+-- `allowed::target_number` meets its contract: each arm returns the target of its operation.
 use borrow.Author.Needs.{needs}
 use Rattle.allowed.proofs.target_number.Statement.{statement}
 use Rattle.allowed.proofs.target_number.Tie as tie

@@ -1,4 +1,4 @@
--- `begin::closing_from` meets its contract. Assumes nothing.
+-- `begin::closing_from` meets its contract, field by field: `closing_left` gives how many writes are left.
 use borrow.Author.Needs.{needs}
 use Rattle.begin.proofs.closing_from.Statement.{statement}
 use Rattle.begin.proofs.closing_from.Tie as tie

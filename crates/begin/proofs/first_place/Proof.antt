@@ -1,4 +1,4 @@
--- `begin::first_place` meets its contract. Assumes nothing.
+-- `begin::first_place` meets its contract: its test of the count decides that of `firstPlace`, and each call gives its case's place.
 use borrow.Author.Needs.{needs}
 use borrow.Author.Tests.{eq-eqb, ne-eqb}
 use Rattle.begin.specs.Begin.{firstPlace}

@@ -1,4 +1,4 @@
--- `begin::frame_at` meets its contract. Assumes nothing.
+-- `begin::frame_at` meets its contract: `passes` decides whether the count is there, so that the sum fits; a u16 is below 65536.
 use mathlib.Core.Path.{sym, _∙_}
 use Prim.Native.Nat.{_+_}
 use lib.ListN.{length}

@@ -1,4 +1,4 @@
--- `begin::opening_place` meets its contract. Assumes nothing.
+-- `begin::opening_place` meets its contract: its test decides the definition's, and the frame's place is what `frame_at` gives.
 use borrow.Author.Needs.{needs}
 use borrow.Author.Tests.{eq-eqb, ne-eqb}
 use Rattle.begin.specs.Begin.{openingPlace}

@@ -1,4 +1,4 @@
--- `begin::part_place` meets its contract. Assumes nothing.
+-- `begin::part_place` meets its contract: each arm of the match is an arm of `partPlace`, with what `operations_left` says is left.
 use borrow.Author.Needs.{needs}
 use Rattle.begin.proofs.part_place.Statement.{statement}
 use Rattle.begin.proofs.part_place.Tie as tie

@@ -1,4 +1,4 @@
--- `belongs::counter_past` meets its contract. Assumes nothing.
+-- `belongs::counter_past` meets its contract: it makes the contract's comparisons in their order, and one that holds makes it true.
 use Rattle.format.proofs.Decided.{decided}
 use Rattle.belongs.proofs.counter_past.Statement.{statement}
 use Rattle.belongs.proofs.counter_past.Tie as tie

@@ -1,4 +1,4 @@
--- `belongs::foreign` meets its contract. Assumes nothing.
+-- `belongs::foreign` meets its contract: the size and each callee decide one part of `foreignTo`, in its order.
 use borrow.Author.Needs.{needs}
 use borrow.Author.Tests.{eq-eqb, ne-eqb}
 use Rattle.belongs.specs.Foreign.{foreignTo}

@@ -1,4 +1,4 @@
--- `belongs::recorded_wrong` meets its contract. Assumes nothing.
+-- `belongs::recorded_wrong` meets its contract: it makes the contract's comparisons in their order, and one that holds makes it true.
 use Rattle.format.proofs.Decided.{decided}
 use Rattle.belongs.proofs.recorded_wrong.Statement.{statement}
 use Rattle.belongs.proofs.recorded_wrong.Tie as tie

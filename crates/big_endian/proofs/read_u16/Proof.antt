@@ -1,4 +1,4 @@
--- `big_endian::read_u16` meets its contract. Assumes nothing.
+-- `big_endian::read_u16` meets its contract: past the end it is 0, else `read_be` or `load_2` gives it; 2 bytes fit a u16 (`be-below`).
 use borrow.Author.Needs.{needs}
 use native.Mathlib.Omega.{arith}
 use Rattle.format.proofs.Bytes.{be-past, be-below}

@@ -1,4 +1,4 @@
--- `big_endian::window` meets its contract. Assumes nothing.
+-- `big_endian::window` meets its contract: the slice from `at` to `at + 16` is the part of 16 bytes, which are all there.
 use borrow.Author.Needs.{needs}
 use native.Mathlib.Omega.{arith}
 use Prim.Native.Nat.{_+_, _-_}

@@ -1,4 +1,4 @@
--- `card_entry::read_card` meets its contract. Assumes nothing.
+-- `card_entry::read_card` meets its contract, field by field: each read is at the place that `cardAt` names.
 use borrow.Author.Needs.{needs}
 use Rattle.card_entry.proofs.read_card.Statement.{statement}
 use Rattle.card_entry.proofs.read_card.Tie as tie

@@ -1,4 +1,4 @@
--- `card_rules::card_wrong` meets its contract. Assumes nothing.
+-- `card_rules::card_wrong` meets its contract: the tests decide `cardWrong`; two bytes are all 0 where each of them is (`zeros-two`).
 use native.Mathlib.Omega.{arith}
 use borrow.Author.Tests.{eq-eqb, ne-eqb, le-ltb, lt-ltb}
 use mathlib.Core.Bool.{and-false, or-true}

@@ -1,4 +1,4 @@
--- `card_rules::one_card_wrong` meets its contract. Assumes nothing.
+-- `card_rules::one_card_wrong` meets its contract: each test decides one part of `oneCardWrong`, and the sums of 64 bits do not wrap.
 use borrow.Author.Tests.{eq-eqb, le-ltb, lt-ltb, ne-eqb}
 use mathlib.Core.Bool.{or-true}
 use Rattle.format.specs.Card.{oneCardWrong}

@@ -1,4 +1,4 @@
--- `card_rules::padding` meets its contract. Assumes nothing.
+-- `card_rules::padding` meets its contract: its test decides that of `paddingAt`.
 use borrow.Author.Tests.{lt-ltb, le-ltb}
 use Rattle.card_rules.proofs.padding.Statement.{statement}
 use Rattle.card_rules.proofs.padding.Tie as tie

@@ -1,4 +1,4 @@
--- `cards::refused_card` meets its contract. Assumes nothing.
+-- `cards::refused_card` meets its contract: the rule has the number 7, and `no_cards` is the table that a refusal leaves.
 use borrow.Author.Needs.{needs}
 use Rattle.cards.proofs.refused_card.Statement.{statement}
 use Rattle.cards.proofs.refused_card.Tie as tie

@@ -1,4 +1,4 @@
--- `copy_rules::check_copy` meets its contract. Assumes nothing.
+-- `copy_rules::check_copy` meets its contract: on each path the tests decide which rule of `copyRules` is the first broken one, if any.
 use borrow.Author.Needs.{needs}
 use borrow.Author.Tests.{lt-leb}
 use mathlib.Core.Bool.{and-false}

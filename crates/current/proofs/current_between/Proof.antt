@@ -1,25 +1,24 @@
 -- `current_between` goes by the part of what is next, as the definition does.
 use borrow.Author.Tests.{eq-eqb, ne-eqb}
-use Rattle.format.specs.Stream.{openingLimit}
 use Rattle.current.specs.Current.{currentBetween}
 use borrow.Author.Needs.{needs}
 use Rattle.current.proofs.current_between.Statement.{statement}
 use Rattle.current.proofs.current_between.Tie as tie
 
 returns : tie.Need-returns
-unfolding currentBetween openingLimit
+unfolding currentBetween
 returns c =
     let t = c .before .before .before in
     simp (← (t .before .before .next-part .ensures .0), eq-eqb _ _ (t .if1 .taken), ← (c .before .before .opening-limit .ensures), ← (c .before .opening-from .ensures), ← (c .going-on .ensures))
 
 returns-2 : tie.Need-returns-2
-unfolding currentBetween openingLimit
+unfolding currentBetween
 returns-2 c =
     let t = c .before .before .before in
     simp (← (t .before .before .next-part .ensures .0), ne-eqb _ _ (t .if1 .left), eq-eqb _ _ (c .before .if2 .taken), ← (c .frame-at .ensures))
 
 returns-3 : tie.Need-returns-3
-unfolding currentBetween openingLimit
+unfolding currentBetween
 returns-3 c =
     let t = c .before .before .before in
     simp (← (t .before .before .next-part .ensures .0), ne-eqb _ _ (t .if1 .left), ne-eqb _ _ (c .before .if2 .left), ← (c .no-current .ensures))

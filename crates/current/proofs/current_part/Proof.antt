@@ -1,4 +1,4 @@
--- `current::current_part` meets its contract. Assumes nothing.
+-- `current::current_part` meets its contract: it tests what `currentOf` tests, in its order, and each callee gives that case.
 use borrow.Author.Needs.{needs}
 use borrow.Author.Tests.{eq-eqb, ne-eqb}
 use Rattle.current.specs.Current.{currentOf}

@@ -1,4 +1,4 @@
--- `empty_frames::count_cut_off` meets its contract. Assumes nothing.
+-- `empty_frames::count_cut_off` meets its contract: its two tests, which make no sum, hold exactly where the end is before `at + 2`.
 use borrow.Author.Needs.{needs}
 use native.Mathlib.Omega.{arith}
 use Prim.Native.Nat.{_+_}

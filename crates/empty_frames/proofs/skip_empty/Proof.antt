@@ -1,4 +1,4 @@
--- `empty_frames::skip_empty` meets its contract: the frames that are left decide. Assumes nothing.
+-- `empty_frames::skip_empty` meets its contract. The loop's invariant: the frames that are left decide; each turn leaves one fewer.
 use borrow.Author.Needs.{needs}
 use native.Mathlib.Omega.{arith}
 use borrow.Author.Tests.{ltb-false, ne-eqb}

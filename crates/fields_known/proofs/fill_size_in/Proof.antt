@@ -1,21 +1,15 @@
 -- `fields_known::fill_size_in` meets its contract: with what a FILL has more, or without it, no size is above 16.
 use borrow.Author.Needs.{needs}
 use native.Mathlib.Omega.{arith}
-use Prim.Native.Nat.{ℕ, _-_, _≤_}
-use mathlib.Core.Bool.{Bool, true, false, cond}
-use mathlib.Core.Path.{_≡_}
-use lib.Dec.{eqb}
+use Prim.Native.Nat.{_-_, _≤_}
 use Rattle.fields_known.specs.Known.{fillSize}
+use Rattle.fields_known.proofs.Laws.{extra-most}
 use Rattle.fields_known.proofs.fill_size_in.Statement.{statement}
 use Rattle.fields_known.proofs.fill_size_in.Tie as tie
 
-small : (b : Bool) (more : ℕ) → cond b 0 more ≤ more
-small true more = omega arith
-small false more = omega arith
-
 -- what is added is the difference of the two sizes at most
 bound : (c : tie.After-extra) → c .extra .result ≤ c .before .before .operation-size2 .result - c .before .before .before .operation-size .result
-bound c = rw (c .extra .ensures) (small (eqb (c .before .opcode-in .result) 0) _)
+bound c = rw (c .extra .ensures) (extra-most (c .before .opcode-in .result) _)
 
 add-result : tie.Need-add-result
 add-result c = omega (arith, bound c, c .before .before .operation-size2 .ensures .1, c .before .before .before .operation-size .ensures .1)

@@ -1,4 +1,4 @@
--- `fill_pace::pace_fills` meets its contract. Assumes nothing.
+-- `fill_pace::pace_fills` meets its contract: no version but 2 to 4 is walked, and the walk has that version's width and ranges.
 use borrow.Author.Needs.{needs}
 use borrow.Author.Tests.{le-leb, lt-leb}
 use mathlib.Core.Bool.{and-false}

@@ -1,4 +1,4 @@
--- `fill_records::following` meets its contract. Assumes nothing.
+-- `fill_records::following` meets its contract, field by field: the address wraps at 2 ^ 32, as the definition's does.
 use borrow.Author.Needs.{needs}
 use Rattle.fill_records.proofs.following.Statement.{statement}
 use Rattle.fill_records.proofs.following.Tie as tie

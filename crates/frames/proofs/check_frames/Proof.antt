@@ -1,4 +1,4 @@
--- `frames::check_frames` meets its contract: the frames that are left decide. Assumes nothing.
+-- `frames::check_frames` meets its contract: what the frames that are left say is what all of them say; each turn leaves fewer.
 use borrow.Author.Needs.{needs}
 use native.Mathlib.Omega.{arith}
 use borrow.Author.Tests.{ltb-false}

@@ -1,4 +1,4 @@
--- `frames::frame_run` meets its contract. Assumes nothing.
+-- `frames::frame_run` meets its contract: of no items `quickRun` passes none (`quick-none`), and any others are passed by `quick_run`.
 use borrow.Author.Needs.{needs}
 use mathlib.Core.Path.{sym}
 use lib.ListN.{length}

@@ -1,4 +1,4 @@
--- `header::read_header` meets its contract. Assumes nothing.
+-- `header::read_header` meets its contract: its tests are those of the rules 1 to 6 in `headerFrom`, in their order.
 use borrow.Author.Needs.{needs}
 use borrow.Author.Tests.{eq-eqb, le-ltb, lt-ltb, ne-eqb}
 use mathlib.Core.Path.{_≡_}

@@ -1,4 +1,4 @@
--- `header_fields::card_count` meets its contract. Assumes nothing.
+-- `header_fields::card_count` meets its contract: its test of the version decides that of `cardCount`.
 use borrow.Author.Needs.{needs}
 use borrow.Author.Tests.{eq-eqb, ne-eqb}
 use Rattle.format.specs.Header.{cardCount}

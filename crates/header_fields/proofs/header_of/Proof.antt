@@ -1,4 +1,4 @@
--- `header_fields::header_of` meets its contract. Assumes nothing.
+-- `header_fields::header_of` meets its contract: byte 4 decides between the plain and the pooled header, as in `headerOf`.
 use borrow.Author.Needs.{needs}
 use borrow.Author.Tests.{eq-eqb, ne-eqb}
 use Rattle.format.specs.Header.{headerOf}

@@ -1,4 +1,4 @@
--- `header_fields::period_of` meets its contract. Assumes nothing.
+-- `header_fields::period_of` meets its contract: its test of the version decides that of `periodOf`.
 use borrow.Author.Needs.{needs}
 use borrow.Author.Tests.{eq-eqb, ne-eqb}
 use Rattle.format.specs.Header.{periodOf}

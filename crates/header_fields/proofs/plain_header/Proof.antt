@@ -1,4 +1,4 @@
--- `header_fields::plain_header` meets its contract. Assumes nothing.
+-- `header_fields::plain_header` meets its contract, field by field: each read is at the place that `plainHeader` names.
 use borrow.Author.Needs.{needs}
 use Rattle.format.specs.Header.{plainHeader}
 use Rattle.header_fields.proofs.plain_header.Statement.{statement}
@@ -9,4 +9,4 @@ unfolding plainHeader
 returns c = simp (← (c .before .before .before .read-u32 .ensures), ← (c .before .before .byte-at .ensures), ← (c .before .read-u322 .ensures), ← (c .read-u323 .ensures))
 
 pub plain-header-spec : {M : Type 1} → statement M
-plain-header-spec = tie.close (tie.spec (search needs) (search needs) (search needs) (search needs) (search needs) (search needs) (search needs) returns)
+plain-header-spec = tie.close (tie.spec (search needs) (search needs) (search needs) (search needs) (search needs) (search needs) (search needs) (search needs) (search needs) returns)

@@ -1,4 +1,4 @@
--- `header_fields::pooled_header` meets its contract. Assumes nothing.
+-- `header_fields::pooled_header` meets its contract, field by field: each read is at the place that `pooledHeader` names; two fields are callees'.
 use borrow.Author.Needs.{needs}
 use Rattle.format.specs.Header.{pooledHeader}
 use Rattle.header_fields.proofs.pooled_header.Statement.{statement}

@@ -1,4 +1,4 @@
--- `header_rules::flags_wrong` meets its contract. Assumes nothing.
+-- `header_rules::flags_wrong` meets its contract: the tests come in the order of `flagsWrong`; version 1 has no reserved bytes.
 use borrow.Author.Needs.{needs}
 use borrow.Author.Tests.{eq-eqb, le-ltb, lt-ltb, ne-eqb}
 use Rattle.format.specs.Header.{flagsWrong}

@@ -1,4 +1,4 @@
--- `header_rules::header_size` meets its contract. Assumes nothing.
+-- `header_rules::header_size` meets its contract: its tests of the version decide those of `headerSize`.
 use borrow.Author.Tests.{eq-eqb, ne-eqb}
 use Rattle.format.specs.Header.{headerSize}
 use Rattle.header_rules.proofs.header_size.Statement.{statement}

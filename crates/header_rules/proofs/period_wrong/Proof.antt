@@ -1,4 +1,4 @@
--- `header_rules::period_wrong` meets its contract. Assumes nothing.
+-- `header_rules::period_wrong` meets its contract: a period of 0 is not wrong, and for any other the two limits decide.
 use borrow.Author.Tests.{eq-eqb, le-ltb, lt-ltb, ne-eqb}
 use Rattle.format.specs.Header.{periodWrong}
 use Rattle.header_rules.proofs.period_wrong.Statement.{statement}

@@ -1,4 +1,4 @@
--- `header_rules::reserved_wrong` meets its contract. Assumes nothing.
+-- `header_rules::reserved_wrong` meets its contract: the tests come in the order of `reservedWrong`, and the version decides the last ones.
 use borrow.Author.Needs.{needs}
 use borrow.Author.Tests.{eq-eqb, le-ltb, lt-ltb, ne-eqb}
 use Rattle.format.specs.Header.{reservedWrong}

@@ -1,4 +1,4 @@
--- `layout::check_layout` meets its contract. Assumes nothing.
+-- `layout::check_layout` meets its contract: the verdicts on cards, counts and directory are one row, and the rules 10 to 12 follow it.
 use mathlib.Core.Path.{_≡_}
 use Rattle.format.specs.Rule.{verdictOf}
 use Rattle.layout.proofs.TableRow.{tablesRow, layout-row}

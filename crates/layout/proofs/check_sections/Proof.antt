@@ -1,4 +1,4 @@
--- `layout::check_sections` meets its contract. Assumes nothing.
+-- `layout::check_sections` meets its contract: where the pools have an end rule 12 decides, and their refusal is passed on.
 use borrow.Author.Needs.{needs}
 use Rattle.layout.proofs.check_sections.Statement.{statement}
 use Rattle.layout.proofs.check_sections.Tie as tie

@@ -1,4 +1,4 @@
--- `limit_tables::bulk_end` meets its contract. Assumes nothing.
+-- `limit_tables::bulk_end` meets its contract: a missing target has 0, and any other the sum in `bulkEnd`, which 64 bits hold.
 use borrow.Author.Needs.{needs}
 use Rattle.limit_tables.specs.Limits.{bulkEnd}
 use Rattle.limit_tables.proofs.bulk_end.Statement.{statement}

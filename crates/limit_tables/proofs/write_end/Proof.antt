@@ -1,3 +1,4 @@
+-- `limit_tables::write_end` meets its contract: a missing target has 0, and any other limit is below 2 ^ 32 - 1, so that its sum fits.
 use borrow.Author.Needs.{needs}
 use Rattle.limit_tables.proofs.Tabled.{write-limit-range}
 use native.Mathlib.Omega.{arith}

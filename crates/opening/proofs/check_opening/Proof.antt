@@ -20,7 +20,6 @@ whole : (c : tie.After-check-operations)
     let a = q .before .before .before .before .args in
     walked (settingOf (a .file .now) (a .header) (a .cards)) (a .file .now) (openingLimit (a .header) (a .file .now)) (a .header .«initial_count») (a .header .«initial_start»)
     ≡ mapped {B = ℕ × Bool} (λ (found : ℕ × Bool). (found .0, q .quick-run .result .si22 || found .1)) (walkedOf (c .check-operations .result))
-unfolding openingLimit
 whole c =
     let q = c .before in
     let s = q .before .before .before .before in

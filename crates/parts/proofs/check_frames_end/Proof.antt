@@ -1,3 +1,4 @@
+-- `check_frames_end` meets its contract: where the frames pass, the place behind them is compared with the file's end; a refusal is passed on.
 use borrow.Author.Needs.{needs}
 use borrow.Author.Tests.{eq-eqb, ne-eqb}
 use Rattle.parts.proofs.check_frames_end.Statement.{statement}

@@ -1,3 +1,4 @@
+-- `check_parts` meets its contract: where the opening passes and ends at the frames, the frames decide; a refusal is passed on.
 use borrow.Author.Needs.{needs}
 use borrow.Author.Tests.{eq-eqb, ne-eqb}
 use Rattle.parts.proofs.check_parts.Statement.{statement}

@@ -1,3 +1,4 @@
+-- `plain_behind` meets its contract. The loop's invariant: the place behind those that are left is the place behind all; each turn leaves one fewer.
 use borrow.Author.Needs.{needs}
 use borrow.Author.Tests.{not-true, not-false}
 use native.Mathlib.Omega.{arith}

@@ -1,3 +1,4 @@
+-- `plain_end` tests what `plainEnd` tests, in its order, and gives that target's limit.
 use borrow.Author.Needs.{needs}
 use borrow.Author.Tests.{eq-eqb, le-leb, le-ltb, lt-leb, lt-ltb, ne-eqb}
 use mathlib.Core.Bool.{and-false, or-false}

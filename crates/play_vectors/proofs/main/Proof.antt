@@ -1,4 +1,4 @@
--- `play_vectors::main` is safe and ends: each turn leaves fewer entries to read. Assumes nothing.
+-- `play_vectors::main` is safe and ends: each turn leaves fewer entries to read.
 use borrow.Author.Needs.{needs}
 use Rattle.play_vectors.proofs.main.Statement.{statement}
 use Rattle.play_vectors.proofs.main.Tie as tie

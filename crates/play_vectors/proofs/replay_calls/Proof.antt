@@ -1,4 +1,4 @@
--- `play_vectors::replay_calls` is safe and ends. Assumes nothing.
+-- `play_vectors::replay_calls` is safe and ends: the buffer keeps its length, and each turn leaves one call fewer.
 use borrow.Author.Needs.{needs}
 use mathlib.Core.Path.{_≡_}
 use lib.ListN.{length}

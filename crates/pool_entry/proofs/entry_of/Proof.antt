@@ -1,4 +1,4 @@
--- `pool_entry::entry_of` meets its contract. Assumes nothing.
+-- `pool_entry::entry_of` meets its contract: its test decides that of `entryOf`, and `read_pool` gives the entry of a known pool.
 use borrow.Author.Tests.{lt-ltb, le-ltb}
 use Rattle.pool_entry.specs.Entry.{entryOf}
 use borrow.Author.Needs.{needs}

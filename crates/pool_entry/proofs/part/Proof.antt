@@ -1,4 +1,4 @@
--- `pool_entry::part` meets its contract. Assumes nothing.
+-- `pool_entry::part` meets its contract: past the end nothing is left, and where fewer bytes are left than `size`, all of them are.
 use Prim.Native.Nat.{_+_, _-_, _≤_}
 use mathlib.Core.Path.{_≡_, sym}
 use lib.ListN.{length, drop, drop-of-length-le, length-drop}

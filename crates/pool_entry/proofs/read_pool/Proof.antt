@@ -1,4 +1,4 @@
--- `pool_entry::read_pool` meets its contract. Assumes nothing.
+-- `pool_entry::read_pool` meets its contract, field by field: each read is at the place that `poolAt` names.
 use borrow.Author.Needs.{needs}
 use Rattle.pool_entry.proofs.read_pool.Statement.{statement}
 use Rattle.pool_entry.proofs.read_pool.Tie as tie

@@ -1,4 +1,4 @@
--- `pool_lookup::find_pool` meets its contract. Assumes nothing.
+-- `pool_lookup::find_pool` meets its contract: the header of an accepted file is that of `headerOf`, and a refusal is that of `read`.
 use mathlib.Core.Path.{ap}
 use Rattle.format.specs.declared.header.Header.{Header}
 use Rattle.format.specs.Checked.{ok}

@@ -1,4 +1,4 @@
--- `pool_lookup::pool_kind` meets its contract. Assumes nothing.
+-- `pool_lookup::pool_kind` meets its contract: the kind of an accepted file's pool is that of the entry that is found (`kind-found`).
 use Rattle.pool_lookup.proofs.Pools.{kind-found}
 use borrow.Author.Needs.{needs}
 use Rattle.pool_lookup.proofs.pool_kind.Statement.{statement}

@@ -1,4 +1,4 @@
--- `pool_lookup::pool_payload` meets its contract. Assumes nothing.
+-- `pool_lookup::pool_payload` meets its contract: the payload is the part of the file that the entry names (`payload-found`).
 use Rattle.pool_lookup.proofs.Pools.{payload-found}
 use borrow.Author.Needs.{needs}
 use Rattle.pool_lookup.proofs.pool_payload.Statement.{statement}

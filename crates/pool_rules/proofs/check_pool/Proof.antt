@@ -1,4 +1,4 @@
--- `pool_rules::check_pool` meets its contract. Assumes nothing.
+-- `pool_rules::check_pool` meets its contract: the verdicts by the rules 10 and 11, put in a row, are the row of `poolRules`.
 use borrow.Author.Needs.{needs}
 use Rattle.pool_rules.proofs.check_pool.Statement.{statement}
 use Rattle.pool_rules.proofs.check_pool.Tie as tie

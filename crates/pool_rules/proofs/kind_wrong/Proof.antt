@@ -1,4 +1,4 @@
--- `pool_rules::kind_wrong` meets its contract. Assumes nothing.
+-- `pool_rules::kind_wrong` meets its contract: the kind decides which sizes are wrong, as in `kindWrong`, and any other kind is wrong.
 use borrow.Author.Needs.{needs}
 use borrow.Author.Tests.{eq-eqb, ne-eqb}
 use Rattle.format.specs.Pool.{kindWrong}

@@ -1,4 +1,4 @@
--- `pool_rules::pool_wrong` meets its contract. Assumes nothing.
+-- `pool_rules::pool_wrong` meets its contract: each test decides one part of `poolWrong`, in its order.
 use borrow.Author.Needs.{needs}
 use borrow.Author.Tests.{eq-eqb, ne-eqb}
 use mathlib.Core.Bool.{or-true}

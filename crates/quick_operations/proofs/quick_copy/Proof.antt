@@ -1,4 +1,4 @@
--- `quick_operations::quick_copy` meets its contract: the fields of a COPY are the reader's, and the tests come in the
+-- `quick_operations::quick_copy` meets its contract: the numbers of a COPY are the reader's, and the tests come in the
 -- definition's order.
 use borrow.Author.Needs.{needs}
 use borrow.Author.Tests.{le-leb, le-ltb, lt-leb, lt-ltb}
@@ -11,6 +11,7 @@ use lib.ListN.{length}
 use Rattle.format.specs.Bytes.{part}
 use Rattle.format.specs.Size.{entrySize}
 use Rattle.fields.specs.Decoded.{decodedOperation}
+use Rattle.fields_known.proofs.Laws.{copy-pool, copy-source, copy-length}
 use Rattle.limit_tables.specs.declared.TargetLimits.{TargetLimits}
 use Rattle.quick_rules.specs.Quick.{poolFits}
 use Rattle.quick_operations.specs.Passes.{copyPasses}
@@ -31,13 +32,27 @@ read : (c : tie.After-out-of-range) → (
     let a = pool .before .before .before .before .args in
     copyPasses (a .file .now) (a .pools) (a .directory) (a .limits) (decodedOperation (a .width) (a .bytes .now))
     ≡ cond (c .out-of-range .result) false
-    (pooled (a .file .now) (a .pools) (a .directory) (a .limits) (pool .before .address-in .result) (pool .pool-in .result) (length .before .source-in .result) (length .length-in .result)))
+    (pooled (a .file .now) (a .pools) (a .directory) (a .limits) (pool .before .address-in .result) (pool .copy-pool-in .result) (length .before .copy-source-in .result)
+    (length .copy-length-in .result)))
 unfolding copyPasses
 read c =
     let length = c .before in
     let source = length .before in
     let pool = source .before in
-    rw (← (pool .before .address-in .ensures), ← (pool .pool-in .ensures), ← (source .source-in .ensures), ← (length .length-in .ensures), ← (c .out-of-range .ensures))
+    let start = pool .before .before .before .before in
+    let width = start .args .width in
+    let bytes = start .args .bytes .now in
+    let copy = start .pre .2 in
+    rw (
+      ← (copy-pool width bytes copy),
+      ← (copy-source width bytes copy),
+      ← (copy-length width bytes copy),
+      ← (pool .before .address-in .ensures),
+      ← (pool .copy-pool-in .ensures),
+      ← (source .copy-source-in .ensures),
+      ← (length .copy-length-in .ensures),
+      ← (c .out-of-range .ensures),
+    )
 
 returns-3 : tie.Need-returns-3
 returns-3 c =

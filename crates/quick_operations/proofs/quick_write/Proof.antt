@@ -1,4 +1,4 @@
--- `quick_operations::quick_write` meets its contract.
+-- `quick_operations::quick_write` meets its contract: the address is the reader's.
 use borrow.Author.Needs.{needs}
 use Rattle.quick_operations.specs.Passes.{writePasses}
 use Rattle.quick_operations.proofs.quick_write.Statement.{statement}

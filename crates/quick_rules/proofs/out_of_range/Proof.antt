@@ -1,3 +1,4 @@
+-- `out_of_range` tests what `outOfBulk` tests, in its order; the sum of 64 bits does not wrap.
 use borrow.Author.Needs.{needs}
 use borrow.Author.Tests.{eq-eqb, le-leb, le-ltb, lt-leb, lt-ltb, ne-eqb}
 use mathlib.Core.Bool.{and-false, or-false}

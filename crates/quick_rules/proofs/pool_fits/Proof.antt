@@ -1,3 +1,4 @@
+-- `pool_fits` tests what `poolFits` tests, in its order.
 use borrow.Author.Needs.{needs}
 use borrow.Author.Tests.{eq-eqb, le-leb, le-ltb, lt-leb, lt-ltb, ne-eqb}
 use mathlib.Core.Bool.{and-false, or-false}
@@ -30,7 +31,7 @@ returns-4 c =
       ← (c .before .before .before .byte-at .ensures),
       eq-eqb _ _ (c .before .before .if2 .left),
       eq-eqb _ _ (c .before .if3 .left),
-      ← (c .whole-waves .ensures),
+      ← (c .whole-wave .ensures),
       and-false,
       or-false,
     )

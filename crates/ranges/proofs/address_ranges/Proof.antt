@@ -1,4 +1,4 @@
--- `ranges::address_ranges` meets its contract. Assumes nothing.
+-- `ranges::address_ranges` meets its contract. The loop's invariant: the arrays hold the ranges with the cards from `i` on; `i` goes down to 0.
 use borrow.Author.Needs.{needs}
 use native.Mathlib.Omega.{arith}
 use Prim.Native.Nat.{ℕ, _+_, _-_, _≤_, min}

@@ -1,4 +1,4 @@
--- `ranges::card_target` meets its contract. Assumes nothing.
+-- `ranges::card_target` meets its contract: `one_card_wrong` decides the test of `cardTarget`.
 use borrow.Author.Needs.{needs}
 use Rattle.ranges.specs.Ranges.{cardTarget}
 use Rattle.ranges.proofs.card_target.Statement.{statement}

@@ -1,4 +1,4 @@
--- `ranges::put_card` meets its contract. Assumes nothing.
+-- `ranges::put_card` meets its contract: a slot past 7 leaves the arrays, and for any other `put_target` stores the card's target.
 use borrow.Author.Needs.{needs}
 use borrow.Author.Tests.{lt-ltb, le-ltb}
 use Rattle.ranges.proofs.put_card.Statement.{statement}

@@ -1,4 +1,4 @@
--- `ranges::put_plain` meets its contract. Assumes nothing.
+-- `ranges::put_plain` meets its contract: in arrays of 0 its stores give the ranges of `targetOf` without cards, by the version.
 use native.Mathlib.Omega.{arith}
 use borrow.Author.Tests.{eq-eqb, ne-eqb}
 use Rattle.ranges.proofs.Plain.{plain-bank, plain-si22, plain-else}

@@ -1,4 +1,4 @@
--- `ranges::put_target` meets its contract. Assumes nothing.
+-- `ranges::put_target` meets its contract: its three stores are those of `startsWith` and `endsWith`.
 use borrow.Author.Needs.{needs}
 use Rattle.ranges.proofs.put_target.Statement.{statement}
 use Rattle.ranges.proofs.put_target.Tie as tie

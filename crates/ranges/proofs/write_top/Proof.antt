@@ -1,4 +1,4 @@
--- `ranges::write_top` meets its contract. Assumes nothing.
+-- `ranges::write_top` meets its contract: a missing target has 0, and any other its limit and 2, which 64 bits hold.
 use borrow.Author.Needs.{needs}
 use Rattle.ranges.specs.Ranges.{writeTop}
 use Rattle.ranges.proofs.write_top.Statement.{statement}

@@ -1,4 +1,4 @@
--- `rules::check_fill` meets its contract. Assumes nothing.
+-- `rules::check_fill` meets its contract: it tests what `fillRules` tests, in its order.
 use borrow.Author.Needs.{needs}
 use Rattle.format.specs.Operation.{fillRules}
 use Rattle.format.proofs.Decided.{decided}

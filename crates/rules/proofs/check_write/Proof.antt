@@ -1,4 +1,4 @@
--- `rules::check_write` meets its contract. Assumes nothing.
+-- `rules::check_write` meets its contract: it tests what `writeRules` tests, in its order.
 use borrow.Author.Needs.{needs}
 use Rattle.format.specs.Operation.{writeRules}
 use Rattle.format.proofs.Decided.{decided}

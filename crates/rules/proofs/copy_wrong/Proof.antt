@@ -1,4 +1,4 @@
--- `rules::copy_wrong` meets its contract. Assumes nothing.
+-- `rules::copy_wrong` meets its contract: it tests what `copyWrong` tests, in its order, and the sum of 64 bits does not wrap.
 use borrow.Author.Needs.{needs}
 use Rattle.format.specs.Operation.{copyWrong}
 use Rattle.format.proofs.Decided.{decided}

@@ -1,4 +1,4 @@
--- `sections::counts_wrong` meets its contract. Assumes nothing.
+-- `sections::counts_wrong` meets its contract: each test decides one part of `countsWrong`; a header has at most 48 bytes, so the sum fits.
 use Rattle.header_rules.proofs.Size.{header-small}
 use borrow.Author.Tests.{eq-eqb, ne-eqb, le-ltb, lt-ltb}
 use mathlib.Core.Bool.{or-true}

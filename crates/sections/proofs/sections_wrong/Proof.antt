@@ -1,4 +1,4 @@
--- `sections::sections_wrong` meets its contract. Assumes nothing.
+-- `sections::sections_wrong` meets its contract: each test decides one part of `sectionsWrong`, in its order.
 use borrow.Author.Tests.{eq-eqb, ne-eqb, le-ltb, lt-ltb}
 use mathlib.Core.Bool.{or-true}
 use Rattle.format.specs.Stream.{sectionsWrong}

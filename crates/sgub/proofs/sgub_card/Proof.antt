@@ -1,4 +1,4 @@
--- `sgub::sgub_card` meets its contract. Assumes nothing.
+-- `sgub::sgub_card` meets its contract: `card_at` takes the card from the table that `check_file` gives.
 use borrow.Author.Needs.{needs}
 use Rattle.sgub.proofs.sgub_card.Statement.{statement}
 use Rattle.sgub.proofs.sgub_card.Tie as tie

@@ -1,4 +1,4 @@
--- `sgub::sgub_check` meets its contract. Assumes nothing.
+-- `sgub::sgub_check` meets its contract: it is the answer of `check_file`, which `verdict_of` puts into numbers.
 use mathlib.Core.Path.{ap, _∙_}
 use Rattle.file_check.specs.Answer.{Whole}
 use Rattle.answers.specs.Surface.{verdictOn}

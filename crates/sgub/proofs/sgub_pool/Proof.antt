@@ -1,4 +1,4 @@
--- `sgub::sgub_pool` meets its contract. Assumes nothing.
+-- `sgub::sgub_pool` meets its contract: it is the answer of `find_pool`, which `pool_of` puts into numbers.
 use mathlib.Core.Path.{ap, _∙_}
 use Rattle.answers.specs.Surface.{poolOn}
 use borrow.Author.Needs.{needs}

@@ -1,4 +1,4 @@
--- `sgub::sgub_pool_entry` meets its contract. Assumes nothing.
+-- `sgub::sgub_pool_entry` meets its contract: it is the entry that `read_pool` gives, which `entry_of` puts into numbers.
 use borrow.Author.Needs.{needs}
 use Rattle.sgub.proofs.sgub_pool_entry.Statement.{statement}
 use Rattle.sgub.proofs.sgub_pool_entry.Tie as tie

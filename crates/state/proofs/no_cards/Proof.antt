@@ -1,4 +1,4 @@
--- `state::no_cards` meets its contract. Assumes nothing.
+-- `state::no_cards` meets its contract: with no card, `tableOf` fills all eight places with `noCard`.
 use borrow.Author.Needs.{needs}
 use Rattle.format.specs.State.{tableOf}
 use Rattle.state.proofs.no_cards.Statement.{statement}

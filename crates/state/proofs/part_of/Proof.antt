@@ -1,4 +1,4 @@
--- `state::part_of` meets its contract. Assumes nothing.
+-- `state::part_of` meets its contract: its tests of the number decide those of `partOf`.
 use borrow.Author.Tests.{eq-eqb, ne-eqb}
 use Rattle.state.proofs.part_of.Statement.{statement}
 use Rattle.state.proofs.part_of.Tie as tie

@@ -1,4 +1,4 @@
--- `state::wave_source` meets its contract. Assumes nothing.
+-- `state::wave_source` meets its contract: its two tests decide that of `waveSource`, and behind them the index is below 16.
 use borrow.Author.Needs.{needs}
 use Rattle.format.specs.State.{waveSource}
 use Rattle.format.proofs.Decided.{decided}

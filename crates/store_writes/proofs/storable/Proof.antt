@@ -1,3 +1,4 @@
+-- `storable` meets its contract: its tests decide the definition's. A WRITE has at most 16 bytes, so that no product or sum wraps.
 use borrow.Author.Needs.{needs}
 use native.Mathlib.Omega.{arith}
 use native.Mathlib.Nat.{mul-le-mul-left}

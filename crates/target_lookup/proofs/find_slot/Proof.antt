@@ -1,4 +1,4 @@
--- `target_lookup::find_slot` meets its contract: the cards from `i` on decide. Assumes nothing.
+-- `target_lookup::find_slot` meets its contract. The loop's invariant: the cards from `i` on decide; they are at most 8, each turn one fewer.
 use borrow.Author.Needs.{needs}
 use borrow.Author.Tests.{eq-eqb, ne-eqb}
 use native.Mathlib.Omega.{arith}

@@ -1,4 +1,4 @@
--- `target_lookup::find_target` meets its contract. Assumes nothing.
+-- `target_lookup::find_target` meets its contract: it tests what `targetOf` tests, in its order, and `find_slot` gives a slot's target.
 use borrow.Author.Needs.{needs}
 use Rattle.format.proofs.Decided.{decided}
 use Rattle.format.specs.Target.{targetOf}

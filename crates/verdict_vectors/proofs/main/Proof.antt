@@ -1,4 +1,4 @@
--- `verdict_vectors::main` is safe and ends: each turn leaves fewer entries to read. Assumes nothing.
+-- `verdict_vectors::main` is safe and ends: each turn leaves fewer entries to read.
 use borrow.Author.Needs.{needs}
 use Rattle.verdict_vectors.proofs.main.Statement.{statement}
 use Rattle.verdict_vectors.proofs.main.Tie as tie

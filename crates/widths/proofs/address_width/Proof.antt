@@ -1,4 +1,4 @@
--- `widths::address_width` meets its contract. Assumes nothing.
+-- `widths::address_width` meets its contract: its test decides that of `addressWidth`, and both answers are 3 or 4.
 use Rattle.format.specs.Operation.{addressWidth}
 use Rattle.format.proofs.Decided.{decided}
 use Rattle.widths.proofs.address_width.Statement.{statement}

@@ -1,4 +1,4 @@
--- `widths::read_address` meets its contract. Assumes nothing.
+-- `widths::read_address` meets its contract: a width of 3 is read by `read_u24`, and any other is 4 and read by `read_u32`.
 use borrow.Author.Needs.{needs}
 use native.Mathlib.Omega.{arith}
 use mathlib.Core.Path.{_≡_}

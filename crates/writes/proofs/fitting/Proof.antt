@@ -1,4 +1,4 @@
--- `writes::fitting` meets its contract. Assumes nothing.
+-- `writes::fitting` meets its contract: the tests by `passes` decide those of `tooLong`, in its order, and one that holds gives 0.
 use borrow.Author.Needs.{needs}
 use Rattle.writes.specs.Segment.{tooLong, fitting}
 use Rattle.writes.proofs.fitting.Statement.{statement}

@@ -1,4 +1,4 @@
--- `fields::number::address_in` meets its contract.
+-- `fields::number::address_in` meets its contract: the address stands behind opcode and target.
 use borrow.Author.Needs.{needs}
 use Rattle.fields.specs.Decoded.{decodedOperation}
 use Rattle.fields.proofs.number.address_in.Statement.{statement}

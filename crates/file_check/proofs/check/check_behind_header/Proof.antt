@@ -1,4 +1,4 @@
--- `file_check::check::check_behind_header` meets its contract. Assumes nothing.
+-- `file_check::check::check_behind_header` meets its contract: only version 4 has cards, from 48 on; they and the layout have one verdict.
 use mathlib.Core.Path.{sym, ap, _∙_}
 use Rattle.format.specs.Card.{cardsFrom}
 use Rattle.format.specs.Rule.{verdictOf}

@@ -1,4 +1,4 @@
--- `file_check::check::check_behind_tables` meets its contract. Assumes nothing.
+-- `file_check::check::check_behind_tables` meets its contract: what `check_parts` finds is recorded, and its refusal is passed on.
 use borrow.Author.Needs.{needs}
 use Rattle.file_check.proofs.check.check_behind_tables.Statement.{statement}
 use Rattle.file_check.proofs.check.check_behind_tables.Tie as tie

@@ -1,4 +1,4 @@
--- `file_check::check::check_file` meets its contract. Assumes nothing.
+-- `file_check::check::check_file` meets its contract: a refused header is `read`'s answer, else `read` goes on as `behindHeader` does.
 use mathlib.Core.Path.{sym, ap, _∙_}
 use Rattle.header.specs.Answer.{headerIn}
 use Rattle.file_check.proofs.Reading.{read-found, read-refused}

@@ -1,4 +1,4 @@
--- `file_check::check::refused_file` meets its contract. Assumes nothing.
+-- `file_check::check::refused_file` meets its contract: the refusal is the answer, and `no_cards` is the table that it leaves.
 use borrow.Author.Needs.{needs}
 use Rattle.file_check.proofs.check.refused_file.Statement.{statement}
 use Rattle.file_check.proofs.check.refused_file.Tie as tie

@@ -1,4 +1,4 @@
--- `operation::item::read_item` meets its contract. Assumes nothing.
+-- `operation::item::read_item` meets its contract: its test of the version decides that of `itemAt`, and each reader gives its case.
 use borrow.Author.Needs.{needs}
 use borrow.Author.Tests.{eq-eqb, ne-eqb}
 use Rattle.format.specs.Operation.{itemAt}

@@ -1,4 +1,4 @@
--- `operation::walk::check_operations` meets its contract. Assumes nothing.
+-- `operation::walk::check_operations` meets its contract: what is seen, with what the items left say, is the whole; each turn leaves one fewer.
 use borrow.Author.Needs.{needs}
 use native.Mathlib.Omega.{arith}
 use mathlib.Core.Path.{_≡_, refl}

@@ -1,4 +1,4 @@
--- `operation::walk::si22_seen` meets its contract. Assumes nothing.
+-- `operation::walk::si22_seen` meets its contract: where 11 was seen the `||` is true, and else the target's test decides it.
 use borrow.Author.Needs.{needs}
 use Rattle.operation.proofs.walk.si22_seen.Statement.{statement}
 use Rattle.operation.proofs.walk.si22_seen.Tie as tie

@@ -1,4 +1,4 @@
--- `operation::walk::step` meets its contract. Assumes nothing.
+-- `operation::walk::step` meets its contract: an item that is read gives its next place and its target, and a refusal is passed on.
 use borrow.Author.Needs.{needs}
 use Rattle.operation.proofs.walk.step.Statement.{statement}
 use Rattle.operation.proofs.walk.step.Tie as tie

@@ -1,4 +1,4 @@
--- `pace::item::start` meets its contract. Assumes nothing.
+-- `pace::item::start` meets its contract: its tests decide those of `started`; the writes made and those left are the count, a u32.
 use borrow.Author.Needs.{needs}
 use native.Mathlib.Omega.{arith}
 use borrow.Author.Tests.{lt-ltb, le-ltb}

@@ -1,4 +1,4 @@
--- `pace::operations::pace` meets its contract. Assumes nothing.
+-- `pace::operations::pace` meets its contract. The loop's invariant: pacing what is left from here is pacing all; each turn leaves one fewer.
 use borrow.Author.Needs.{needs}
 use native.Mathlib.Omega.{arith}
 use borrow.Author.Tests.{lt-ltb, le-ltb}

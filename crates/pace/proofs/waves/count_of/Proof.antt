@@ -1,4 +1,4 @@
--- `pace::waves::count_of` meets its contract. Assumes nothing.
+-- `pace::waves::count_of` meets its contract: each arm returns the count of its operation.
 use borrow.Author.Needs.{needs}
 use Rattle.pace.proofs.waves.count_of.Statement.{statement}
 use Rattle.pace.proofs.waves.count_of.Tie as tie

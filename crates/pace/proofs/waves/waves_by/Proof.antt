@@ -1,4 +1,4 @@
--- `pace::waves::waves_by` meets its contract. Assumes nothing.
+-- `pace::waves::waves_by` meets its contract: only a COPY of a pool of kind 1 sets a source, as in `wavesBy`.
 use borrow.Author.Needs.{needs}
 use borrow.Author.Tests.{eq-eqb, ne-eqb}
 use Rattle.format.specs.Player.{wavesBy}

@@ -1,4 +1,4 @@
--- `pace::waves::waves_now` meets its contract. Assumes nothing.
+-- `pace::waves::waves_now` meets its contract: its test of the writes decides that of `wavesNow`.
 use borrow.Author.Needs.{needs}
 use borrow.Author.Tests.{eq-eqb, ne-eqb}
 use Rattle.pace.proofs.waves.waves_now.Statement.{statement}

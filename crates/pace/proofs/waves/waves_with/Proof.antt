@@ -1,4 +1,4 @@
--- `pace::waves::waves_with` meets its contract. Assumes nothing.
+-- `pace::waves::waves_with` meets its contract: a place below 16 is set, and to set one past the sources changes nothing (`set-out`).
 use borrow.Author.Needs.{needs}
 use native.Mathlib.Omega.{arith}
 use Prim.Native.Nat.{_+_, _*_, _/_}

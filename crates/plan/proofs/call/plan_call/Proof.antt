@@ -1,4 +1,4 @@
--- `plan::call::plan_call` meets its contract. Assumes nothing.
+-- `plan::call::plan_call` meets its contract: a finished state is the first case, `foreign` decides `belongs`, and `plan_part` gives the rest.
 use mathlib.Core.Path.{ap, _∙_}
 use borrow.Author.Needs.{needs}
 use Rattle.format.specs.Checked.{refuse}

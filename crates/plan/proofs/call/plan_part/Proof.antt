@@ -1,4 +1,4 @@
--- `plan::call::plan_part` meets its contract. Assumes nothing.
+-- `plan::call::plan_part` meets its contract: each arm of the match is an arm of `plan`, and its callee gives that plan.
 use mathlib.Core.Path.{sym, _∙_}
 use borrow.Author.Needs.{needs}
 use Rattle.format.specs.State.{partOf}

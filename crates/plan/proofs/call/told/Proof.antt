@@ -1,4 +1,4 @@
--- `plan::call::told` meets its contract. Assumes nothing.
+-- `plan::call::told` meets its contract: its test decides that of `takenTold`, and `moved` gives the next state.
 use borrow.Author.Needs.{needs}
 use Rattle.plan.proofs.call.told.Statement.{statement}
 use Rattle.plan.proofs.call.told.Tie as tie

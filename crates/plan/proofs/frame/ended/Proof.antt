@@ -1,4 +1,4 @@
--- `plan::frame::ended` meets its contract. Assumes nothing.
+-- `plan::frame::ended` meets its contract: whether an operation is left decides, as in the definition, and the count stays in both cases.
 use borrow.Author.Needs.{needs}
 use borrow.Author.Tests.{eq-eqb, ne-eqb}
 use mathlib.Core.Path.{refl}

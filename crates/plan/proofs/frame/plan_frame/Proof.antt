@@ -1,4 +1,4 @@
--- `plan::frame::plan_frame` meets its contract. Assumes nothing.
+-- `plan::frame::plan_frame` meets its contract: what `pace` takes, ended, is the frame's plan (`told-frame`), and is at most the room.
 use borrow.Author.Needs.{needs}
 use native.Mathlib.Omega.{arith}
 use Rattle.plan.proofs.Telling.{told-frame}

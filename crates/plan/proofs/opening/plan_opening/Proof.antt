@@ -1,10 +1,9 @@
--- `plan::opening::plan_opening` meets its contract. Assumes nothing.
+-- `plan::opening::plan_opening` meets its contract: frame 1 follows only where no operation is left, and both take at most the room.
 use borrow.Author.Needs.{needs}
 use native.Mathlib.Omega.{arith}
 use borrow.Author.Tests.{eq-eqb, ne-eqb}
 use Prim.Native.Nat.{_-_}
 use Rattle.format.specs.Pace.{planOpening}
-use Rattle.format.specs.Stream.{openingLimit}
 use Rattle.plan.proofs.Telling.{told-bind, told-behind}
 use mathlib.Core.Path.{ap}
 use Rattle.plan.specs.declared.taken.Taken.{Taken}
@@ -12,11 +11,11 @@ use Rattle.plan.proofs.opening.plan_opening.Statement.{statement}
 use Rattle.plan.proofs.opening.plan_opening.Tie as tie
 
 returns : tie.Need-returns
-unfolding planOpening openingLimit
+unfolding planOpening
 returns c = rw (told-bind, ← (c .before .before .before .opening-limit .ensures), ← (c .before .before .pace .ensures .0), c .before .taken-by .ensures, c .if1 .taken)
 
 returns-2 : tie.Need-returns-2
-unfolding planOpening openingLimit
+unfolding planOpening
 returns-2 c =
     let left = c .before in
     let taken = left .before .before .before in
@@ -29,7 +28,7 @@ behind-requires c κs =
     omega (arith, ap (λ (t : Taken). t .count) (c .before .before .before .before .before .taken-by .ensures))
 
 returns-3 : tie.Need-returns-3
-unfolding planOpening openingLimit
+unfolding planOpening
 returns-3 c =
     let left = c .before .before .before in
     let taken = left .before .before .before in

@@ -1,4 +1,4 @@
--- `play_vectors::records::mix_call` is safe and ends. Assumes nothing.
+-- `play_vectors::records::mix_call` is safe and ends: each turn takes 1 from `turns`, which is above 0 there, and nothing is indexed.
 use borrow.Author.Needs.{needs}
 use Rattle.play_vectors.proofs.records.mix_call.Statement.{statement}
 use Rattle.play_vectors.proofs.records.mix_call.Tie as tie

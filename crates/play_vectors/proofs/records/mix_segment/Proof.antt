@@ -1,4 +1,4 @@
--- `play_vectors::records::mix_segment` is safe and ends. Assumes nothing.
+-- `play_vectors::records::mix_segment` is safe and ends: each turn leaves one record fewer; `i` is at most the count, and other sums wrap.
 use borrow.Author.Needs.{needs}
 use Prim.Native.Nat.{_-_}
 use Rattle.play_vectors.proofs.records.mix_segment.Statement.{statement}

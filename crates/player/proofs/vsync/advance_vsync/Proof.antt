@@ -66,14 +66,14 @@ use Rattle.empty_step.proofs.empty_step as es
 use Rattle.empty_step.proofs.empty_step.Symbol as es-def
 use Rattle.empty_step.proofs.empty_step.Symbol.{name as #empty-step}
 use Rattle.empty_step.proofs.empty_step.Met as es-thm
-use Rattle.state.proofs.store_position.Symbol as sp-def
-use Rattle.state.proofs.store_position.Symbol.{name as #store-position}
-use Rattle.state.proofs.store_position.Met as sp-thm
+use Rattle.position.proofs.store_position.Symbol as sp-def
+use Rattle.position.proofs.store_position.Symbol.{name as #store-position}
+use Rattle.position.proofs.store_position.Met as sp-thm
 use Rattle.walk_laws.proofs.Body.{head-of, then-of}
-use Rattle.player.proofs.Lent.{stayed, ref, bytes, slice, pref, eref, eslice, Lent, lentOf, x₂, s₂, s₃, args, vals, File, Run, Advances, Post, to, exits, shut, hand, answered, Moves, to-move, goes-move, moved-on}
+use Rattle.planned_vsync.proofs.Lent.{stayed, ref, bytes, slice, pref, eref, eslice, Lent, lentOf, x₂, s₂, s₃, args, vals, File, Run, Advances, Post, to, exits, shut, hand, answered, Moves, to-move, goes-move, moved-on}
 use Rattle.player.proofs.Calls.{emptyTold, emptiedOn, empty-told}
-use Rattle.player.proofs.vsync.Vsync as Y
-use Rattle.player.proofs.vsync.Vsync.Laws as Y′
+use Rattle.planned_vsync.proofs.Vsync as Y
+use Rattle.planned_vsync.proofs.Vsync.Laws as Y′
 use Rattle.player.proofs.vsync.busy_vsync.Symbol as bv-def
 use Rattle.player.proofs.vsync.busy_vsync.Symbol.{name as #player·busy-vsync}
 use Rattle.player.proofs.vsync.busy_vsync.Met as bv-thm
@@ -338,5 +338,5 @@ advance-vsync-spec 𝓤 H 𝓜 𝓖 𝓡 = entered 𝓤 H (tripleOf 𝓤 H (𝓖
     (tables 𝓤 H 𝓜 𝓡 code.env .C) (tables 𝓤 H 𝓜 𝓡 code.env .Λ) #player·advance-vsync code.function (code.unfolded 𝓤 H 𝓜 𝓡)
     (advance-vsync-meets 𝓤 H (𝓖 .A) (givenOf 𝓤 H 𝓜 𝓖) (𝓜 .mem) (𝓡 .run) (tablesOf 𝓤 H 𝓜 (tables 𝓤 H 𝓜 𝓡 code.env))
     (cited 𝓤 H (Decides 𝓤 H (𝓖 .A) (𝓜 .mem) (𝓡 .run)) 𝓜 𝓡 code.env #empty-step es-def.routine code.calls-empty-step·empty-step (es-thm.met 𝓤 H 𝓜 𝓖 𝓡))
-    (cited 𝓤 H (Moves 𝓤 H (𝓖 .A) (𝓜 .mem) (𝓡 .run)) 𝓜 𝓡 code.env #store-position sp-def.routine code.calls-state·store-position (sp-thm.met 𝓤 H 𝓜 𝓖 𝓡))
+    (cited 𝓤 H (Moves 𝓤 H (𝓖 .A) (𝓜 .mem) (𝓡 .run)) 𝓜 𝓡 code.env #store-position sp-def.routine code.calls-position·store-position (sp-thm.met 𝓤 H 𝓜 𝓖 𝓡))
     (cited 𝓤 H (Advances 𝓤 H (𝓖 .A) (𝓜 .mem) (𝓡 .run)) 𝓜 𝓡 code.env #player·busy-vsync bv-def.routine code.calls-player·vsync·busy-vsync (bv-thm.met 𝓤 H 𝓜 𝓖 𝓡)))

@@ -71,18 +71,18 @@ use Rattle.store_step.proofs.store_step as ss
 use Rattle.store_step.proofs.store_step.Symbol as ss-def
 use Rattle.store_step.proofs.store_step.Symbol.{name as #store-step}
 use Rattle.store_step.proofs.store_step.Met as ss-thm
-use Rattle.state.proofs.store_position.Symbol as sp-def
-use Rattle.state.proofs.store_position.Symbol.{name as #store-position}
-use Rattle.state.proofs.store_position.Met as sp-thm
+use Rattle.position.proofs.store_position.Symbol as sp-def
+use Rattle.position.proofs.store_position.Symbol.{name as #store-position}
+use Rattle.position.proofs.store_position.Met as sp-thm
 use Rattle.walk_laws.proofs.Body.{head-of, tail, then-of}
-use Rattle.player.proofs.Lent.{stayed, ref, bytes, slice, word, pref, eref, eslice, Lent, lentOf, x₂, x₃, s₂, s₃, args, vals, File, Run, Advances, Post, to, exits, shut, hand, answered, Moves, to-move, goes-move, moved-on}
+use Rattle.planned_vsync.proofs.Lent.{stayed, ref, bytes, slice, word, pref, eref, eslice, Lent, lentOf, x₂, x₃, s₂, s₃, args, vals, File, Run, Advances, Post, to, exits, shut, hand, answered, Moves, to-move, goes-move, moved-on}
 use Rattle.player.proofs.Calls.{stepTold, steppedOn, step-told}
-use Rattle.player.proofs.vsync.Vsync as Y
-use Rattle.player.proofs.vsync.Vsync.Laws as Y′
-use Rattle.player.proofs.vsync.planned_vsync as pv
-use Rattle.player.proofs.vsync.planned_vsync.Symbol as pv-def
-use Rattle.player.proofs.vsync.planned_vsync.Symbol.{name as #player·planned-vsync}
-use Rattle.player.proofs.vsync.planned_vsync.Met as pv-thm
+use Rattle.planned_vsync.proofs.Vsync as Y
+use Rattle.planned_vsync.proofs.Vsync.Laws as Y′
+use Rattle.planned_vsync.proofs.planned_vsync as pv
+use Rattle.planned_vsync.proofs.planned_vsync.Symbol as pv-def
+use Rattle.planned_vsync.proofs.planned_vsync.Symbol.{name as #planned-vsync}
+use Rattle.planned_vsync.proofs.planned_vsync.Met as pv-thm
 use Rattle.player.proofs.vsync.busy_vsync.Key.{name as #player·busy-vsync}
 use Rattle.player.proofs.vsync.busy_vsync as f
 use Rattle.player.proofs.vsync.busy_vsync.Statement as stated
@@ -171,7 +171,7 @@ module _ {M : Type 1} (𝓤 : URA M) (H : Heap 𝓤) (A : Atoms 𝓤) (W : Given
 
   module _ (C : Calls 𝓤 H) (Λ : Loops 𝓤 H) (fm : FmC 𝓤 H (W .laws) C) (known-step : Triple 𝓤 (C #quick-step) (Decides 𝓤 H A at-mem run))
       (known-store : Triple 𝓤 (C #store-step) (Stores 𝓤 H A at-mem run)) (known-move : Triple 𝓤 (C #store-position) (Moves 𝓤 H A at-mem run))
-      (known : Triple 𝓤 (C #player·planned-vsync) (Advances 𝓤 H A at-mem run)) where
+      (known : Triple 𝓤 (C #planned-vsync) (Advances 𝓤 H A at-mem run)) where
     module _ (l₀ l₁ l₂ l₃ l₄ l₅ l₆ l₇ l₈ l₉ l₁₀ l₁₁ l₁₂ l₁₃ l₁₄ : ℕ) where
       abbrev En : Env 𝓤 H
       En =
@@ -341,14 +341,14 @@ module _ {M : Type 1} (𝓤 : URA M) (H : Heap 𝓤) (A : Atoms 𝓤) (W : Given
 module _ {M : Type 1} (𝓤 : URA M) (H : Heap 𝓤) (A : Atoms 𝓤) (W : Given 𝓤 H A) (at-mem : Memory → SProp 𝓤) (run : Routine → Fun 𝓤) where
   busy-vsync-walks : (C : Calls 𝓤 H) (Λ : Loops 𝓤 H) → FmC 𝓤 H (W .laws) C → Triple 𝓤 (C #quick-step) (Decides 𝓤 H A at-mem run)
       → Triple 𝓤 (C #store-step) (Stores 𝓤 H A at-mem run) → Triple 𝓤 (C #store-position) (Moves 𝓤 H A at-mem run)
-      → Triple 𝓤 (C #player·planned-vsync) (Advances 𝓤 H A at-mem run) → Walks 𝓤 H A f.ended stayed (WpFn 𝓤 H C Λ code.function) (f.clauses 𝓤 H A at-mem run)
+      → Triple 𝓤 (C #planned-vsync) (Advances 𝓤 H A at-mem run) → Walks 𝓤 H A f.ended stayed (WpFn 𝓤 H C Λ code.function) (f.clauses 𝓤 H A at-mem run)
   busy-vsync-walks C Λ fm known-step known-store known-move known = walked 𝓤 H A f.ended stayed (f.clauses 𝓤 H A at-mem run) (WpFn 𝓤 H C Λ code.function) (λ κs. (ptr-vals, (slice-vals, (slice-vals, tt))))
       (λ κs. (mut-tells (named 0) (κs .0) P.the-row, (shr-slice-tells (named 1) (κs .1 .0) u8, (mut-slice-tells (named 2) (κs .1 .1 .0) T.the-row, tt))))
       (λ κs qs bounds a _ are. via 𝓤 _ (fst∗ 𝓤 _ (emp 𝓤)) (walk 𝓤 H A W at-mem run (lentOf κs qs a) (are .1 .0 .0 .1) (are .1 .1 .0 .0 .1) C Λ fm known-step known-store known-move known))
 
 busy-vsync-meets : {M : Type 1} (𝓤 : URA M) (H : Heap 𝓤) (A : Atoms 𝓤) → Given 𝓤 H A → (at-mem : Memory → SProp 𝓤) (run : Routine → Fun 𝓤) (𝓣 : Tables 𝓤 H)
     → Triple 𝓤 (𝓣 .C #quick-step) (Decides 𝓤 H A at-mem run) → Triple 𝓤 (𝓣 .C #store-step) (Stores 𝓤 H A at-mem run)
-    → Triple 𝓤 (𝓣 .C #store-position) (Moves 𝓤 H A at-mem run) → Triple 𝓤 (𝓣 .C #player·planned-vsync) (Advances 𝓤 H A at-mem run)
+    → Triple 𝓤 (𝓣 .C #store-position) (Moves 𝓤 H A at-mem run) → Triple 𝓤 (𝓣 .C #planned-vsync) (Advances 𝓤 H A at-mem run)
     → Meets 𝓤 H A f.signature (WpFn 𝓤 H (𝓣 .C) (𝓣 .Λ) code.function) (f.spec 𝓤 H A at-mem run)
 busy-vsync-meets 𝓤 H A W at-mem run 𝓣 known-step known-store known-move known =
     walk-meets 𝓤 H A f.ended stayed W (
@@ -365,5 +365,5 @@ busy-vsync-spec 𝓤 H 𝓜 𝓖 𝓡 = entered 𝓤 H (tripleOf 𝓤 H (𝓖 .A
     (busy-vsync-meets 𝓤 H (𝓖 .A) (givenOf 𝓤 H 𝓜 𝓖) (𝓜 .mem) (𝓡 .run) (tablesOf 𝓤 H 𝓜 (tables 𝓤 H 𝓜 𝓡 code.env))
     (cited 𝓤 H (Decides 𝓤 H (𝓖 .A) (𝓜 .mem) (𝓡 .run)) 𝓜 𝓡 code.env #quick-step qs-def.routine code.calls-quick-step·quick-step (qs-thm.met 𝓤 H 𝓜 𝓖 𝓡))
     (cited 𝓤 H (Stores 𝓤 H (𝓖 .A) (𝓜 .mem) (𝓡 .run)) 𝓜 𝓡 code.env #store-step ss-def.routine code.calls-store-step·store-step (ss-thm.met 𝓤 H 𝓜 𝓖 𝓡))
-    (cited 𝓤 H (Moves 𝓤 H (𝓖 .A) (𝓜 .mem) (𝓡 .run)) 𝓜 𝓡 code.env #store-position sp-def.routine code.calls-state·store-position (sp-thm.met 𝓤 H 𝓜 𝓖 𝓡))
-    (cited 𝓤 H (Advances 𝓤 H (𝓖 .A) (𝓜 .mem) (𝓡 .run)) 𝓜 𝓡 code.env #player·planned-vsync pv-def.routine code.calls-player·vsync·planned-vsync (pv-thm.met 𝓤 H 𝓜 𝓖 𝓡)))
+    (cited 𝓤 H (Moves 𝓤 H (𝓖 .A) (𝓜 .mem) (𝓡 .run)) 𝓜 𝓡 code.env #store-position sp-def.routine code.calls-position·store-position (sp-thm.met 𝓤 H 𝓜 𝓖 𝓡))
+    (cited 𝓤 H (Advances 𝓤 H (𝓖 .A) (𝓜 .mem) (𝓡 .run)) 𝓜 𝓡 code.env #planned-vsync pv-def.routine code.calls-planned-vsync·planned-vsync (pv-thm.met 𝓤 H 𝓜 𝓖 𝓡)))

@@ -1,4 +1,4 @@
--- `segments::closing::closing_segment` meets its contract. Assumes nothing.
+-- `segments::closing::closing_segment` meets its contract: `less` gives the index, and its tests decide those of `closingSegment`.
 use borrow.Author.Needs.{needs}
 use borrow.Author.Tests.{eq-eqb, ne-eqb}
 use Rattle.segments.specs.Closing.{closingSegment}

@@ -1,4 +1,4 @@
--- `segments::place::next_cursor` meets its contract. Assumes nothing.
+-- `segments::place::next_cursor` meets its contract: its test decides that of `nextCursor`.
 use borrow.Author.Tests.{eq-eqb, ne-eqb}
 use Rattle.segments.proofs.place.next_cursor.Statement.{statement}
 use Rattle.segments.proofs.place.next_cursor.Tie as tie

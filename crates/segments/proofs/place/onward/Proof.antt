@@ -1,4 +1,4 @@
--- `segments::place::onward` meets its contract. Assumes nothing.
+-- `segments::place::onward` meets its contract, field by field: `less` gives the three differences, and `next_cursor` the cursor.
 use borrow.Author.Needs.{needs}
 use Rattle.segments.proofs.place.onward.Statement.{statement}
 use Rattle.segments.proofs.place.onward.Tie as tie

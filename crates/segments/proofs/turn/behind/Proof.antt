@@ -1,4 +1,4 @@
--- `segments::turn::behind` meets its contract. Assumes nothing.
+-- `segments::turn::behind` meets its contract: its test of the room decides the definition's, and its callee gives that place.
 use borrow.Author.Tests.{le-leb, lt-leb}
 use borrow.Author.Needs.{needs}
 use Rattle.segments.proofs.turn.behind.Statement.{statement}

@@ -1,4 +1,4 @@
--- `segments::turn::closing_turn` meets its contract. Assumes nothing.
+-- `segments::turn::closing_turn` meets its contract, field by field: its test of the room decides only the place behind the segment.
 use borrow.Author.Needs.{needs}
 use borrow.Author.Tests.{le-leb, lt-leb}
 use Rattle.segments.specs.Turn.{closingTurn}

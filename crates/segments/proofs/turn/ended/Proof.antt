@@ -1,6 +1,6 @@
--- `segments::turn::ended` meets its contract. Assumes nothing.
+-- `segments::turn::ended` meets its contract: each test decides one part of the definition, and the sum of 64 bits does not wrap.
 use borrow.Author.Tests.{lt-ltb, le-ltb}
-use Rattle.segments.specs.Span.{ended}
+use Rattle.segments.specs.SpanTurn.{ended}
 use borrow.Author.Needs.{needs}
 use Rattle.segments.proofs.turn.ended.Statement.{statement}
 use Rattle.segments.proofs.turn.ended.Tie as tie

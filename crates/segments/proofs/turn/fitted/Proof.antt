@@ -1,4 +1,4 @@
--- `segments::turn::fitted` meets its contract. Assumes nothing.
+-- `segments::turn::fitted` meets its contract: its test decides the definition's.
 use borrow.Author.Tests.{le-leb, lt-leb}
 use Rattle.segments.proofs.turn.fitted.Statement.{statement}
 use Rattle.segments.proofs.turn.fitted.Tie as tie

@@ -1,4 +1,4 @@
--- `segments::turn::from_behind` meets its contract. Assumes nothing.
+-- `segments::turn::from_behind` meets its contract: its test decides that of `fromBehind`, and the sum of three u32 does not wrap.
 use borrow.Author.Needs.{needs}
 use Rattle.segments.proofs.turn.from_behind.Statement.{statement}
 use Rattle.segments.proofs.turn.from_behind.Tie as tie

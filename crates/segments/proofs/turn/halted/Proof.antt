@@ -1,4 +1,4 @@
--- `segments::turn::halted` meets its contract. Assumes nothing.
+-- `segments::turn::halted` meets its contract, field by field: `one_value`, `stopped` and `less` give the fields.
 use borrow.Author.Needs.{needs}
 use Rattle.segments.proofs.turn.halted.Statement.{statement}
 use Rattle.segments.proofs.turn.halted.Tie as tie

@@ -1,9 +1,9 @@
--- `segments::turn::next_segment` meets its contract. Assumes nothing.
+-- `segments::turn::next_segment` meets its contract: a closing write is the first case, and the turn of a span is that of its item (`span-turns`).
 use mathlib.Core.Path.{sym, _∙_}
 use Rattle.format.proofs.Checks.{cond-false}
-use Rattle.segments.specs.Decoded.{decoded}
+use Rattle.item_span.specs.Decoded.{decoded}
 use Rattle.segments.specs.Turn.{turn}
-use Rattle.segments.proofs.Spans.{span-turns}
+use Rattle.segments.proofs.SpanTurns.{span-turns}
 use borrow.Author.Needs.{needs}
 use Rattle.segments.proofs.turn.next_segment.Statement.{statement}
 use Rattle.segments.proofs.turn.next_segment.Tie as tie

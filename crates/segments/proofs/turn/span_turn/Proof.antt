@@ -1,8 +1,8 @@
--- `segments::turn::span_turn` meets its contract. Assumes nothing.
+-- `segments::turn::span_turn` meets its contract: where `ended` is false its difference is not below 0 and its sum does not wrap (`goes-on`).
 use native.Mathlib.Omega.{arith}
 use mathlib.Core.Path.{sym, _∙_}
-use Rattle.segments.specs.Span.{spanTurn}
-use Rattle.segments.proofs.Spans.{goes-on}
+use Rattle.segments.specs.SpanTurn.{spanTurn}
+use Rattle.segments.proofs.SpanTurns.{goes-on}
 use borrow.Author.Needs.{needs}
 use Rattle.segments.proofs.turn.span_turn.Statement.{statement}
 use Rattle.segments.proofs.turn.span_turn.Tie as tie

@@ -1,4 +1,4 @@
--- `sgub::comparison::sgub_compare` meets its contract. Assumes nothing.
+-- `sgub::comparison::sgub_compare` meets its contract: it is the answer of `compare` as numbers, and both images are as `compare` leaves them.
 use mathlib.Core.Path.{ap, _∙_}
 use Rattle.answers.specs.Surface.{comparedOn}
 use borrow.Author.Needs.{needs}

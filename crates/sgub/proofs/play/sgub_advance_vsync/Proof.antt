@@ -37,9 +37,9 @@ use denote.Triple.Walked.{goes-gave-ref, goes-none-slice, goes-gave-slice, Walks
 use denote.Exit.{yes}
 use Rattle.format.proofs.operation.WriteRecord as T
 use Rattle.format.proofs.player.StreamPlayer as P
-use Rattle.player.proofs.Lent.{stayed, ref, bytes, slice, pref, eref, eslice, Lent, lentOf, s₂, s₃, args, vals, Player, File, Run, Advances, Post, to, exits, hand, answered}
-use Rattle.player.proofs.vsync.Vsync as Y
-use Rattle.player.proofs.vsync.Vsync.Laws as Y′
+use Rattle.planned_vsync.proofs.Lent.{stayed, ref, bytes, slice, pref, eref, eslice, Lent, lentOf, s₂, s₃, args, vals, Player, File, Run, Advances, Post, to, exits, hand, answered}
+use Rattle.planned_vsync.proofs.Vsync as Y
+use Rattle.planned_vsync.proofs.Vsync.Laws as Y′
 use Rattle.player.proofs.advance_vsync as av
 use Rattle.player.proofs.advance_vsync.Symbol as av-def
 use Rattle.player.proofs.advance_vsync.Symbol.{name as #player·advance-vsync}

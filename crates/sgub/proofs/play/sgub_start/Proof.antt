@@ -1,4 +1,4 @@
--- `sgub::play::sgub_start` meets its contract. Assumes nothing.
+-- `sgub::play::sgub_start` meets its contract: each arm of the verdict is an arm of `startFields`, and the state is that of `start`.
 use borrow.Author.Needs.{needs}
 use Rattle.sgub.proofs.play.sgub_start.Statement.{statement}
 use Rattle.sgub.proofs.play.sgub_start.Tie as tie

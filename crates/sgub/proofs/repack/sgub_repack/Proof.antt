@@ -1,4 +1,4 @@
--- `sgub::repack::sgub_repack` meets its contract. Assumes nothing.
+-- `sgub::repack::sgub_repack` meets its contract: it is the answer of `compile_song_v2` as numbers, and the buffer is as that leaves it.
 use mathlib.Core.Path.{ap, _∙_}
 use Rattle.answers.specs.Surface.{repackedOn}
 use borrow.Author.Needs.{needs}

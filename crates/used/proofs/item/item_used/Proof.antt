@@ -1,4 +1,4 @@
--- `used::item::item_used` meets its contract. Assumes nothing.
+-- `used::item::item_used` meets its contract: where `read_item` or `use_wrong` refuses it is 25, and else it is the item that was read.
 use borrow.Author.Needs.{needs}
 use Rattle.format.proofs.As25.{as25-bind, as25-then}
 use Rattle.used.proofs.item.item_used.Statement.{statement}

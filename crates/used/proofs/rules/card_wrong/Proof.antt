@@ -1,4 +1,4 @@
--- `used::rules::card_wrong` meets its contract. Assumes nothing.
+-- `used::rules::card_wrong` meets its contract: it tests what `cardOfTarget` tests, in its order, and one that fails makes it false.
 use borrow.Author.Needs.{needs}
 use borrow.Author.Tests.{le-leb, lt-leb, eq-eqb, ne-eqb}
 use Rattle.used.proofs.rules.card_wrong.Statement.{statement}

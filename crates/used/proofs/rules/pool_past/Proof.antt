@@ -1,4 +1,4 @@
--- `used::rules::pool_past` meets its contract. Assumes nothing.
+-- `used::rules::pool_past` meets its contract: it tests what `poolUsed` tests, in its order, and `as25` makes each refusal 25.
 use borrow.Author.Needs.{needs}
 use borrow.Author.Tests.{lt-ltb, le-ltb}
 use Rattle.format.specs.Player.{poolUsed}

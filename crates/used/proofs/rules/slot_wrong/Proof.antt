@@ -1,4 +1,4 @@
--- `used::rules::slot_wrong` meets its contract: the cards from `i` on decide. Assumes nothing.
+-- `used::rules::slot_wrong` meets its contract. The loop's invariant: the cards from `i` on decide; behind the count none is wrong.
 use borrow.Author.Needs.{needs}
 use borrow.Author.Tests.{eq-eqb, ne-eqb}
 use native.Mathlib.Omega.{arith}

@@ -1,4 +1,4 @@
--- `used::rules::use_wrong` meets its contract. Assumes nothing.
+-- `used::rules::use_wrong` meets its contract: rule 7 decides for each operation, and for a COPY `pool_past` behind it.
 use borrow.Author.Needs.{needs}
 use Rattle.format.specs.Player.{cardUsed, poolsUsed}
 use Rattle.format.proofs.As25.{as25-refuse, refuse-last}

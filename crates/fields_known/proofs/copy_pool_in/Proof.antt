@@ -1,0 +1,12 @@
+-- `fields_known::copy_pool_in` meets its contract: the number behind the address.
+use borrow.Author.Needs.{needs}
+use Rattle.fields_known.specs.Known.{copyPool}
+use Rattle.fields_known.proofs.copy_pool_in.Statement.{statement}
+use Rattle.fields_known.proofs.copy_pool_in.Tie as tie
+
+returns : tie.Need-returns
+unfolding copyPool
+returns c = c .read-u16 .ensures
+
+pub copy-pool-in-spec : {M : Type 1} → statement M
+copy-pool-in-spec = tie.close (tie.spec (search needs) (search needs) returns)

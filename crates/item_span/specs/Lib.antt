@@ -1,0 +1,3 @@
+-- What the contracts of `item_span` cite.
+pub mod Decoded
+pub mod Span

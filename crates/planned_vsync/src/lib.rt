@@ -1,0 +1,30 @@
+// One vsync call over the lent state, file and run, of any state: it is planned by value, so that a refused call changes nothing, and then
+// its records are stored. The player takes quicker ways where it can.
+use format::StreamPlayer;
+use format::WriteRecord;
+use plan::plan_call;
+use store::store_call;
+ghost use Rattle.planned_vsync.specs.Vsync.{Advanced};
+
+// What a call tells: refusal 25 or 0, how many records it stored, and whether the vsync is complete.
+#[repr(C)]
+pub struct Vsync {
+    pub number: u32,
+    pub count: usize,
+    pub complete: bool,
+}
+
+// The call of any state: its plan is made, and then its records are stored.
+pub fn planned_vsync(state: &mut StreamPlayer, file: &[u8], run: &mut [WriteRecord]) -> Vsync
+    ensures { λ r. ⌜ Advanced (now (state .entry)) (now (file .entry)) (now (run .entry)) r (now (state .exit)) (now (run .exit)) ⌝ }
+{
+    let before = *state;
+    let plan = plan_call(before, file, run.len());
+    store_call(run, file, before, plan.count);
+    *state = plan.next;
+    Vsync {
+        number: plan.number,
+        count: plan.count,
+        complete: plan.complete,
+    }
+}
