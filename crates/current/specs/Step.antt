@@ -1,8 +1,9 @@
 -- What a call takes of the part that it goes on with, and where the player then is.
 use Prim.Native.Nat.{ℕ, _-_}
-use mathlib.Core.Bool.{true, false, cond}
+use mathlib.Core.Bool.{Bool, true, false, cond}
 use lib.Dec.{eqb}
 use Rattle.format.specs.declared.player.Part.the-variants.{Opening}
+use Rattle.format.specs.declared.player.Position.{Position}
 use Rattle.format.specs.declared.player.Progress.{Progress}
 use Rattle.format.specs.State.{partNumber, betweenAt, onwardTo, movedTo}
 use Rattle.current.specs.declared.Current.{Current}
@@ -22,33 +23,29 @@ noStep =
       to = betweenAt 0 0;
     }
 
--- some of the part's operations stay
-abbrev pub stepWithin : Current → (left cursor writes plain others count : ℕ) → Step
-stepWithin c left cursor writes plain others count =
+-- a step that is taken from a position to another
+abbrev pub stepFrom : (at : Position) → (plain others count : ℕ) → (complete : Bool) → (to : Position) → Step
+stepFrom at plain others count complete to =
     record {
       taken = true;
-      from = c .at .cursor;
-      made = c .at .«write_index»;
+      from = at .cursor;
+      made = at .«write_index»;
       plain = plain;
       others = others;
       count = count;
-      complete = false;
-      to = onwardTo (c .at) cursor (c .at .«operation_count» - left) writes;
+      complete = complete;
+      to = to;
     }
+
+-- some of the part's operations stay
+abbrev pub stepWithin : Current → (left cursor writes plain others count : ℕ) → Step
+stepWithin c left cursor writes plain others count =
+    stepFrom (c .at) plain others count false (onwardTo (c .at) cursor (c .at .«operation_count» - left) writes)
 
 -- the frame ends
 abbrev pub stepToEnd : Current → (cursor plain others count : ℕ) → Step
 stepToEnd c cursor plain others count =
-    record {
-      taken = true;
-      from = c .at .cursor;
-      made = c .at .«write_index»;
-      plain = plain;
-      others = others;
-      count = count;
-      complete = true;
-      to = betweenAt cursor (c .at .«frame_index»);
-    }
+    stepFrom (c .at) plain others count true (betweenAt cursor (c .at .«frame_index»))
 
 -- no operation stays; the call that ends the opening is not taken
 unfoldable pub stepEnding : Current → (cursor plain others count : ℕ) → Step

@@ -18,7 +18,7 @@ use position::position_of;
 ghost use mathlib.Core.Path.{_≡_};
 ghost use Prim.Native.Nat.{_+_, _^_, _≤_, _<_};
 ghost use Rattle.current.specs.Current.{noCurrent, goingOn, underWay, frameAt, currentBetween, currentOf};
-ghost use Rattle.current.specs.Step.{noStep, stepEnding, stepTo};
+ghost use Rattle.current.specs.Step.{noStep, stepFrom, stepEnding, stepTo};
 
 // `none` where the call has no such part: the player is finished, the state belongs to another file, the closing writes come, or a
 // frame's count passes the file's end. The next operation stands at the position's cursor, and no operation goes past the limit.
@@ -140,6 +140,29 @@ pub fn no_step() -> Step
     }
 }
 
+// A step that is taken from a position to another.
+fn step_from(
+    at: Position,
+    plain: u32,
+    others: usize,
+    count: usize,
+    complete: bool,
+    to: Position,
+) -> Step
+    ensures { λ r. ⌜ r ≡ stepFrom at plain others count complete to ⌝ }
+{
+    Step {
+        taken: true,
+        from: at.cursor,
+        made: at.write_index,
+        plain: plain,
+        others: others,
+        count: count,
+        complete: complete,
+        to: to,
+    }
+}
+
 // The step that leaves no operation of the part. The call that ends the opening is not taken, because it goes on with frame 1.
 fn step_to_end(current: Current, cursor: usize, plain: u32, others: usize, count: usize) -> Step
     ensures { λ r. ⌜ r ≡ stepEnding current cursor plain others count ⌝ }
@@ -148,16 +171,8 @@ fn step_to_end(current: Current, cursor: usize, plain: u32, others: usize, count
     if at.part == Part::OPENING {
         return no_step();
     }
-    Step {
-        taken: true,
-        from: at.cursor,
-        made: at.write_index,
-        plain: plain,
-        others: others,
-        count: count,
-        complete: true,
-        to: between_at(cursor, at.frame_index),
-    }
+    let to = between_at(cursor, at.frame_index);
+    step_from(at, plain, others, count, true, to)
 }
 
 // The step that leaves so many operations of the part, the next one at a cursor with so many writes made.
@@ -177,14 +192,6 @@ pub fn step_to(
         return step_to_end(current, cursor, plain, others, count);
     }
     let at = current.at;
-    Step {
-        taken: true,
-        from: at.cursor,
-        made: at.write_index,
-        plain: plain,
-        others: others,
-        count: count,
-        complete: false,
-        to: onward_to(at, cursor, at.operation_count - left, writes),
-    }
+    let to = onward_to(at, cursor, at.operation_count - left, writes);
+    step_from(at, plain, others, count, false, to)
 }

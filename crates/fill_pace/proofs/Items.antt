@@ -16,7 +16,6 @@ use Rattle.format.specs.Bytes.{byte, part}
 use Rattle.format.specs.Card.{cardsOf}
 use Rattle.format.specs.Checked.{ok}
 use Rattle.format.specs.Operation.{Item, addressWidth, fillRules, allowed, itemAt}
-use Rattle.format.specs.Pace.{countOf, addressOf}
 use Rattle.format.specs.Player.{settingIn, cardUsed, poolsUsed, bytesAt, itemUsed, wavesBy}
 use Rattle.format.specs.Target.{missing}
 use Rattle.format.specs.Writes.{upward, writesWith, targetNumber}

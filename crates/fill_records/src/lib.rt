@@ -15,13 +15,13 @@ ghost use Prim.Native.Nat.{_+_, _-_, _^_, _≤_, _<_};
 ghost use Rattle.format.specs.Size.{operationMost};
 ghost use Rattle.fill_records.specs.Records.{fillPlace, following, firstRecord, nextFill};
 
-// A record's target, address and value, and how many more the operation makes behind it. Where none is left, the next operation stands
-// at the cursor, and `made` of its records are passed over.
+// A record's target, address and value, and how many more the operation makes behind it.
 pub struct FillPlace {
     pub target: u8,
     pub address: u32,
     pub value: u8,
     pub left: u32,
+    // Where none is left: where the next operation stands, and how many of its records are passed over.
     pub cursor: usize,
     pub made: u32,
 }

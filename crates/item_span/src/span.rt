@@ -6,17 +6,18 @@ ghost use mathlib.Core.Path.{_≡_};
 ghost use Rattle.format.specs.Pool.{poolAt};
 ghost use Rattle.item_span.specs.Span.{noSpan, valueSpan, copySpan, spanOf};
 
-// `count` writes to a target, upward from an address: of one value, or, where `copied`, of the bytes from `source` on of the pool at
-// `offset`. The next item is at `next`. Where no item is known all else is 0.
+// `count` writes to a target, upward from an address. Where no item is known all else is 0.
 pub struct Span {
     pub known: bool,
     pub target: u8,
     pub address: u32,
     pub count: u32,
+    // Of one value, or, where `copied`, of the bytes from `source` on of the pool at `offset`.
     pub copied: bool,
     pub value: u8,
     pub offset: u32,
     pub source: u32,
+    // Where the next item stands.
     pub next: usize,
 }
 

@@ -42,4 +42,12 @@ framesEnd file (suc count) at = framesEnd file count (behindFrame file at)
 -- what a master with a header says
 abbrev pub masterOf : List ℕ → Header → Stream
 masterOf file header =
-    record { version = 1; repeat = header .repeat; period = 0; cards = []; pools = []; opening = recordsAt file (header .«initial_count») masterHeaderSize; frames = framesAt file (header .«frame_count») (masterHeaderSize + header .«initial_count» * recordSize) }
+    record {
+      version = 1;
+      repeat = header .repeat;
+      period = 0;
+      cards = [];
+      pools = [];
+      opening = recordsAt file (header .«initial_count») masterHeaderSize;
+      frames = framesAt file (header .«frame_count») (masterHeaderSize + header .«initial_count» * recordSize);
+    }

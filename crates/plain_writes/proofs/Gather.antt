@@ -12,7 +12,7 @@ use Rattle.format.specs.declared.player.StreamPlayer.{StreamPlayer}
 use Rattle.format.specs.Checked.{Checked, ok, refused, mapped, _>>=_, _>>_}
 use Rattle.format.specs.Player.{Gathered, placed, wavesBy, bytesAt, gathered}
 use Rattle.plain_writes.specs.Plain.{plainSize, plainAt, plainBehind, plainWrite, plainWrites}
-use Rattle.plain_writes.proofs.Items.{plainOperation, plain-writes, plain-used}
+use Rattle.plain_writes.proofs.Items.{plain-writes, plain-used}
 
 -- so many plain WRITEs: each of them is plain, and the place behind them is by their size
 pub all-plain : (version : ℕ) (file : List ℕ) (end count at : ℕ) → 0 < plainBehind version file end (suc count) at

@@ -15,7 +15,7 @@ use prog.Wp.{Heap}
 use prog.Routine.{Routine}
 use ghost.Atoms.{Atoms, sem}
 use contract.Monad.{Fun, fact}
-use types.Kit.{Go, Given, Item, Goal, Soaks, Step, step, Sq, post, ‵, raw, _⊛_, ⋆, some, later, _$_, _∵_, !, qed, by, move, drop, use1, use3, split, join, pick, rewrite, fsplit, fjoin, fjoin3}
+use types.Kit.{Go, Given, Item, Goal, Soaks, Step, step, Sq, post, ‵, raw, _⊛_, ⋆, some, later, _$_, _∵_, !, qed, move, drop, use1, use3, split, join, pick, rewrite, fsplit, fjoin, fjoin3}
 use types.Kit.{feqL, feqI, await, suffices, frame, done}
 use types.SemTy.{Body}
 use denote.Laws.{Is, shows}

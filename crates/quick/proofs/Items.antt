@@ -1,18 +1,18 @@
 -- What a quick test passes is one step of the walk over items.
-use Prim.Native.Nat.{ℕ, zero, suc, _+_, _*_, _≤_, _<_}
-use mathlib.Core.Path.{_≡_, refl, sym, ap, _∙_}
-use mathlib.Core.Bool.{Bool, true, false, cond, not, _&&_, _||_, true≢false, false≢true}
+use Prim.Native.Nat.{ℕ, _+_, _*_, _≤_, _<_}
+use mathlib.Core.Path.{_≡_, refl}
+use mathlib.Core.Bool.{Bool, true, false, cond, _||_, true≢false, false≢true}
 use mathlib.Core.List.{List}
 use native.Mathlib.Omega.{arith}
-use borrow.Author.Tests.{ltb-true, ltb-false, leb-false, eqb-true, ne-eqb, not-true}
+use borrow.Author.Tests.{ltb-false, leb-false, eqb-true, ne-eqb, not-true}
 use lib.Dec.{eqb, leb, ltb}
 use lib.ListN.{length}
 use Rattle.format.specs.declared.card.CardRequirement.{CardRequirement}
 use Rattle.targets.specs.declared.Target.{Target}
 use Rattle.format.specs.declared.operation.Operation.the-variants.{Write, Fill, Copy}
-use Rattle.format.specs.Bytes.{byte, be, part}
+use Rattle.format.specs.Bytes.{byte, part}
 use Rattle.format.specs.Checked.{ok}
-use Rattle.format.specs.Operation.{Setting, addressWidth, sizeOf, allowed, itemAt}
+use Rattle.format.specs.Operation.{Setting, addressWidth, allowed}
 use Rattle.format.specs.Pool.{poolAt}
 use Rattle.format.specs.Target.{targetOf, missing}
 use Rattle.format.specs.Writes.{targetNumber}
@@ -20,7 +20,7 @@ use Rattle.format.proofs.Bytes.{byte-part, be-part}
 use Rattle.format.proofs.Sizes.{size-most, width-range}
 use Rattle.fields.specs.declared.decode.Decoded.{Decoded}
 use Rattle.fields.specs.Decoded.{decodedOperation, decodedRecord, decodedItem, operationOf}
-use Rattle.fields.proofs.Laws.{allowedBy, item-decoded}
+use Rattle.fields.proofs.Laws.{item-decoded}
 use Rattle.operation.specs.Walk.{stepped}
 use Rattle.limit_tables.specs.Limits.{limitsFor, limitTable, limitsAt}
 use Rattle.limit_tables.proofs.Tabled.{limits-at}

@@ -14,7 +14,7 @@ use wave_table::MOST;
 use widths::operation_size;
 ghost use mathlib.Core.Path.{_≡_};
 ghost use Prim.Native.Nat.{_+_, _*_, _≤_, _<_};
-ghost use lib.ListN.{length, getD};
+ghost use lib.ListN.{length};
 ghost use Rattle.format.specs.Bytes.{be};
 ghost use Rattle.format.specs.Size.{recordSize};
 ghost use Rattle.big_endian.specs.Put.{put};

@@ -6,7 +6,6 @@ use native.Mathlib.Numerals.{add-one}
 use native.Mathlib.Omega.{arith}
 use lib.ListN.{length, take, drop}
 use lib.Seq.{drop-cons}
-use Rattle.format.specs.Bytes.{byte}
 use Rattle.format.specs.Repack.{pcmPools, wavePool, pcmFill, pcmCopy}
 use Rattle.format.specs.Written.{directoryBytes, payloadsBytes}
 use Rattle.format.proofs.Written.{operations-count}

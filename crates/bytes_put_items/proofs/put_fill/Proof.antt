@@ -1,6 +1,5 @@
 -- The fields of a FILL, one after the other, are the FILL.
 use borrow.Author.Needs.{needs}
-use native.Mathlib.Omega.{arith}
 use Rattle.format.specs.declared.operation.Operation.the-variants.{Fill}
 use Rattle.bytes_put_items.proofs.Items.{put-operation}
 use Rattle.bytes_put_items.proofs.put_fill.Statement.{statement}

@@ -1,9 +1,7 @@
 -- The name stands behind the numbers.
-use mathlib.Core.Path.{sym, ap, _∙_}
-use mathlib.Core.List.{List}
+use mathlib.Core.Path.{sym}
 use native.Mathlib.Omega.{arith}
 use borrow.Author.Needs.{needs}
-use lib.ListN.{length, length-append}
 use Rattle.format.specs.Bytes.{bytesOfAll}
 use Rattle.format.proofs.Fields.{fields-size}
 use Rattle.big_endian.proofs.Sequence.{put-next}

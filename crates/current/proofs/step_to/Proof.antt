@@ -11,7 +11,9 @@ returns c = simp (eq-eqb _ _ (c .before .if1 .taken), ← (c .step-to-end .ensur
 
 returns-2 : tie.Need-returns-2
 unfolding stepTo
-returns-2 c = simp (ne-eqb _ _ (c .before .before .before .if1 .left), ← (c .onward-to .ensures))
+returns-2 c =
+    let to = c .before in
+    simp (ne-eqb _ _ (to .before .before .before .if1 .left), ← (to .onward-to .ensures), ← (c .step-from .ensures))
 
 pub step-to-spec : {M : Type 1} → statement M
-step-to-spec = tie.close (tie.spec (search needs) returns (search needs) (search needs) returns-2)
+step-to-spec = tie.close (tie.spec (search needs) returns (search needs) (search needs) (search needs) returns-2)

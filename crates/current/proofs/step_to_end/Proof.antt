@@ -11,7 +11,9 @@ returns c = simp (eq-eqb _ _ (c .before .if1 .taken), ← (c .no-step .ensures))
 
 returns-2 : tie.Need-returns-2
 unfolding stepEnding
-returns-2 c = simp (ne-eqb _ _ (c .before .if1 .left), ← (c .between-at .ensures))
+returns-2 c =
+    let to = c .before in
+    simp (ne-eqb _ _ (to .before .if1 .left), ← (to .between-at .ensures), ← (c .step-from .ensures))
 
 pub step-to-end-spec : {M : Type 1} → statement M
-step-to-end-spec = tie.close (tie.spec (search needs) returns (search needs) returns-2)
+step-to-end-spec = tie.close (tie.spec (search needs) returns (search needs) (search needs) returns-2)

@@ -10,7 +10,6 @@ use mathlib.Core.Bool.{false}
 use lib.Dec.{ltb}
 use denote.Ref.{now}
 use Rattle.format.specs.Bytes.{byte, part}
-use Rattle.format.specs.declared.operation.Operation.{Operation}
 use Rattle.format.specs.Operation.{addressWidth, sizeOf, fieldsAt, operationAt}
 use Rattle.format.proofs.Sizes.{width-range}
 use Rattle.fields.specs.declared.decode.Decoded.{Decoded}

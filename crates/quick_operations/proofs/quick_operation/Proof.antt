@@ -62,6 +62,14 @@ way c opcode test row passed size low came by limits p s =
     (p ∙ rw there (sym (by _ (decodedOperation (a .width) (a .bytes .now)) is)))
     s
 
+-- what a way asks: the width, and its opcode
+asked : (c : tie.After-opcode-in) → (
+    let a = c .before .before .before .before .before .args in
+    (opcode : ℕ) → c .opcode-in .result ≡ opcode → (3 ≤ a .width) × (a .width ≤ 4) × (byte (a .bytes .now) 0 ≡ opcode))
+asked c opcode came =
+    let wide = c .before .before .before .before .before .pre in
+    (wide .0, wide .1, sym (c .opcode-in .ensures) ∙ came)
+
 returns-2 : tie.Need-returns-2
 returns-2 c =
     let q = c .before in
@@ -69,24 +77,12 @@ returns-2 c =
     let if2 = l .before in
     way (if2 .before) 0 writePasses _ _ _ (omega arith) (if2 .if2 .taken) (write-is _ _ _) (l .limits-at .ensures) (q .quick-write .ensures) (c .operation-size .ensures .0)
 
-quick-fill-requires : tie.Need-quick-fill-requires
-quick-fill-requires c κs =
-    let opcode = c .before .before .before in
-    let wide = opcode .before .before .before .before .before .pre in
-    (wide .0, wide .1, sym (opcode .opcode-in .ensures) ∙ c .if3 .taken)
-
 returns-3 : tie.Need-returns-3
 returns-3 c =
     let q = c .before in
     let if3 = q .before in
     let l = if3 .before in
     way (l .before .before) 1 fillPasses _ _ _ (omega arith) (if3 .if3 .taken) (fill-is _ _ _) (l .limits-at2 .ensures) (q .quick-fill .ensures) (c .operation-size2 .ensures .0)
-
-quick-copy-requires : tie.Need-quick-copy-requires
-quick-copy-requires c κs =
-    let opcode = c .before .before .before .before in
-    let wide = opcode .before .before .before .before .before .pre in
-    (wide .0, wide .1, sym (opcode .opcode-in .ensures) ∙ c .if4 .taken)
 
 returns-4 : tie.Need-returns-4
 returns-4 c =
@@ -109,4 +105,5 @@ unfolding quickOperation decodedOperation
 quick-operation-spec =
     tie.close
     (tie.spec (search needs) (search needs) (λ c. rw (← (c .before .target-in .ensures), le-leb _ _ (c .if1 .taken))) (search needs) (search needs) (search needs) (search needs) returns-2
-    (search needs) quick-fill-requires (search needs) returns-3 quick-copy-requires (search needs) returns-4 returns-5)
+    (search needs) (λ c κs. asked (c .before .before .before) 1 (c .if3 .taken)) (search needs) returns-3 (λ c κs. asked (c .before .before .before .before) 2 (c .if4 .taken)) (search needs)
+    returns-4 returns-5)

@@ -1,6 +1,4 @@
 -- A WRITE has the length that the table gives it.
-use Prim.Native.Nat.{_*_}
-use mathlib.Core.Path.{_≡_}
 use native.Mathlib.Omega.{arith}
 use borrow.Author.Needs.{needs}
 use Rattle.repack_layout.proofs.writes_size.Statement.{statement}

@@ -7,9 +7,6 @@ use Prim.Native.Nat.{ℕ, _*_}
 use Rattle.store_writes.proofs.Writes.{storable-room, storable-file, storable-fit}
 use Rattle.store_writes.proofs.storable.Statement.{statement}
 use Rattle.store_writes.proofs.storable.Tie as tie
-use Rattle.store_writes.proofs.storable.Reads as reads
-use Rattle.store_writes.proofs.storable.Lts as lts
-use Rattle.plain_writes.proofs.plain_size.Reads as plain-size-reads
 
 returns : tie.Need-returns
 returns c =

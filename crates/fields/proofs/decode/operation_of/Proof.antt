@@ -1,5 +1,4 @@
 -- `fields::decode::operation_of` meets its contract: its tests decide the definition's.
-use borrow.Author.Needs.{needs}
 use Rattle.format.proofs.Decided.{decided}
 use Rattle.fields.specs.Decoded.{operationOf}
 use Rattle.fields.proofs.decode.operation_of.Statement.{statement}

@@ -1,7 +1,6 @@
 -- `fields::number::length_in` meets its contract: the number at the chosen place is the chosen number.
 use borrow.Author.Needs.{needs}
 use borrow.Author.Tests.{eq-eqb}
-use Prim.Native.Nat.{_+_}
 use mathlib.Core.Path.{sym}
 use Rattle.format.specs.Bytes.{be}
 use Rattle.fields.specs.Decoded.{decodedOperation}

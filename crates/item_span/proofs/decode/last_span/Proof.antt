@@ -4,8 +4,7 @@ use native.Mathlib.Omega.{arith}
 use mathlib.Core.Path.{_≡_, sym, ap, _∙_}
 use borrow.Author.Tests.{ltb-true}
 use lib.ListN.{length}
-use Rattle.fields.specs.declared.decode.Decoded.{Decoded}
-use Rattle.fields.specs.Decoded.{decodedAt, decodedOperation, operationOf}
+use Rattle.fields.specs.Decoded.{decodedAt, decodedOperation}
 use Rattle.item_span.proofs.Spans.{inside, no-opcode, cut-off, found}
 use Rattle.item_span.proofs.decode.last_span.Statement.{statement}
 use Rattle.item_span.proofs.decode.last_span.Tie as tie

@@ -1,8 +1,7 @@
 -- `item_span::decode::quick_span` meets its contract: the opcode decides what the 16 bytes are read as.
 use borrow.Author.Needs.{needs}
 use native.Mathlib.Omega.{arith}
-use mathlib.Core.Path.{_≡_, sym, ap, _∙_}
-use Rattle.format.specs.Bytes.{byte}
+use mathlib.Core.Path.{_≡_, sym, _∙_}
 use Rattle.fields.specs.Decoded.{decodedAt, decodedOperation}
 use Rattle.item_span.proofs.Spans.{no-opcode, value-read, copy-read}
 use Rattle.item_span.proofs.decode.quick_span.Statement.{statement}

@@ -1,7 +1,6 @@
 -- `item_span::decode::record_span` meets its contract: the reader's numbers are the record's.
 use borrow.Author.Needs.{needs}
 use native.Mathlib.Omega.{arith}
-use mathlib.Core.Path.{ap, _∙_}
 use lib.ListN.{length}
 use Rattle.fields.specs.Decoded.{decodedRecord, operationOf}
 use Rattle.item_span.proofs.Spans.{inside}

@@ -19,7 +19,7 @@ use prog.Wp.{Heap, Env, returns as returnsᴼ, Calls, Loops, WpFn, Tables, atRet
 use ghost.Atoms.{Atoms, sem}
 use contract.Monad.{Fun, fact}
 use contract.Running.{givenOf, tables, tablesOf}
-use types.Kit.{Given, Item, Sq, runs, atRet, post, Post as After, use2, ‵, raw, _⊛_, some, later, _$_, _∵_, !, qed, by, move, keep, drop, use1, split, join, pick, rewrite, fsplit, fsplit3, fjoin, frame, await, done}
+use types.Kit.{Given, Item, Sq, runs, atRet, post, Post as After, use2, ‵, raw, _⊛_, some, later, _$_, _∵_, !, qed, by, move, keep, drop, use1, split, join, pick, rewrite, fsplit, fsplit3, fjoin, await, done}
 use types.Run.{true-lit, look, look-raw, init, forget, stop, hop, fld, from, load, lit, addr, of-opd, and-then, no-more, assigns, land, first, skips, branches, exec, returns, returns-within, enter}
 use types.Run.{alloc1, alloc0, params1, pass1, pass0, free1, free0}
 use types.Part.{agg, whole, sub, look-in}
@@ -42,11 +42,10 @@ use denote.Triple.Statement.{Contract, Triple}
 use denote.Triple.Call.{calls-at}
 use denote.Triple.Clauses.{ensured, lasts}
 use denote.Triple.Table.{entered, cited}
-use denote.Triple.Walked.{says, goes-gave-ref, goes-none-slice, goes-gave-slice, Walks, walked, walk-meets}
+use denote.Triple.Walked.{goes-gave-ref, goes-none-slice, goes-gave-slice, Walks, walked, walk-meets}
 use denote.Exit.{yes}
 use Rattle.format.specs.declared.header.Header.{Header}
 use Rattle.format.specs.declared.player.Progress.{Progress}
-use Rattle.format.specs.Player.{call}
 use Rattle.format.proofs.card.CardTable as K
 use Rattle.format.proofs.card.CardTable.Laws as K′
 use Rattle.format.proofs.header.Header as E

@@ -40,13 +40,12 @@ use denote.Triple.Statement.{Contract, Triple}
 use denote.Triple.Call.{calls-at}
 use denote.Triple.Clauses.{Lasts, ensured, lasts}
 use denote.Triple.Table.{entered, cited}
-use denote.Triple.Walked.{says, goes-gave-ref, goes-none-slice, goes-gave-slice, Walks, walked, walk-meets}
+use denote.Triple.Walked.{goes-gave-ref, goes-none-slice, goes-gave-slice, Walks, walked, walk-meets}
 use denote.Exit.{yes}
 use Rattle.format.specs.declared.card.CardTable.{CardTable}
 use Rattle.format.specs.declared.header.Header.{Header}
 use Rattle.format.specs.declared.operation.WriteRecord.{WriteRecord}
 use Rattle.format.specs.declared.player.Progress.{Progress}
-use Rattle.format.specs.Player.{call}
 use Rattle.format.proofs.card.CardTable as K
 use Rattle.format.proofs.card.CardTable.Laws as K′
 use Rattle.format.proofs.header.Header as E
@@ -79,7 +78,6 @@ use Rattle.planned_vsync.proofs.Lent.{stayed, ref, bytes, slice, word, pref, er
 use Rattle.player.proofs.Calls.{stepTold, steppedOn, step-told}
 use Rattle.planned_vsync.proofs.Vsync as Y
 use Rattle.planned_vsync.proofs.Vsync.Laws as Y′
-use Rattle.planned_vsync.proofs.planned_vsync as pv
 use Rattle.planned_vsync.proofs.planned_vsync.Symbol as pv-def
 use Rattle.planned_vsync.proofs.planned_vsync.Symbol.{name as #planned-vsync}
 use Rattle.planned_vsync.proofs.planned_vsync.Met as pv-thm

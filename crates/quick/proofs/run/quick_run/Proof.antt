@@ -1,6 +1,5 @@
 -- `quick::run::quick_run` meets its contract: the last place with 16 bytes, then the loop of the version.
 use borrow.Author.Needs.{needs}
-use native.Mathlib.Omega.{arith}
 use borrow.Author.Tests.{eq-eqb, ne-eqb, lt-ltb, le-ltb}
 use Rattle.quick.specs.Run.{quickRun}
 use Rattle.quick.proofs.run.quick_run.Statement.{statement}

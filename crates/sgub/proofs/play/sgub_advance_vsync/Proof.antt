@@ -40,7 +40,6 @@ use Rattle.format.proofs.player.StreamPlayer as P
 use Rattle.planned_vsync.proofs.Lent.{stayed, ref, bytes, slice, pref, eref, eslice, Lent, lentOf, s₂, s₃, args, vals, Player, File, Run, Advances, Post, to, exits, hand, answered}
 use Rattle.planned_vsync.proofs.Vsync as Y
 use Rattle.planned_vsync.proofs.Vsync.Laws as Y′
-use Rattle.player.proofs.advance_vsync as av
 use Rattle.player.proofs.advance_vsync.Symbol as av-def
 use Rattle.player.proofs.advance_vsync.Symbol.{name as #player·advance-vsync}
 use Rattle.player.proofs.advance_vsync.Met as av-thm
