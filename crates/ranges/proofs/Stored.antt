@@ -1,6 +1,7 @@
 -- Laws of arrays of ranges: what a store makes of them.
 use Prim.Native.Nat.{ℕ, _+_, _-_, _≤_, _<_}
 use mathlib.Core.Path.{_≡_, refl, sym, _∙_}
+use mathlib.Core.List.{List}
 use mathlib.Core.Bool.{Bool, true, false, cond}
 use native.Mathlib.Omega.{arith}
 use borrow.Author.Tests.{ltb-true, ltb-false, eqb-true, eqb-false, eq-eqb, ne-eqb}
@@ -103,18 +104,18 @@ put-ends f number target h =
 unfoldable pub withCard : (ℕ → Target) → CardRequirement → ℕ → Target
 withCard f card n = cond (ltb 7 (card .slot)) (f n) (put f (card .slot + 3) (cardTarget card) n)
 
-pub card-starts : (f : ℕ → Target) (card : CardRequirement) → startsCard (startsBy f) card ≡ startsBy (withCard f card)
+-- a table by targets, with a card's stored in it
+carded : (by : (ℕ → Target) → List ℕ) (stored : List ℕ) (f : ℕ → Target) (card : CardRequirement) → (card .slot + 3 < 16 → stored ≡ by (put f (card .slot + 3) (cardTarget card)))
+    → cond (ltb 7 (card .slot)) (by f) stored ≡ by (withCard f card)
 unfolding withCard
-card-starts f card = go (ltb 7 (card .slot)) refl
+carded by stored f card is = go (ltb 7 (card .slot)) refl
   where
-    go : (b : Bool) → ltb 7 (card .slot) ≡ b → cond b (startsBy f) (startsWith (startsBy f) (card .slot + 3) (cardTarget card)) ≡ startsBy (λ n. cond b (f n) (put f (card .slot + 3) (cardTarget card) n))
+    go : (b : Bool) → ltb 7 (card .slot) ≡ b → cond b (by f) stored ≡ by (λ n. cond b (f n) (put f (card .slot + 3) (cardTarget card) n))
     go true e = refl
-    go false e = put-starts f (card .slot + 3) (cardTarget card) (omega (arith, ltb-false 7 (card .slot) e))
+    go false e = is (omega (arith, ltb-false 7 (card .slot) e))
+
+pub card-starts : (f : ℕ → Target) (card : CardRequirement) → startsCard (startsBy f) card ≡ startsBy (withCard f card)
+card-starts f card = carded startsBy _ f card (put-starts f (card .slot + 3) (cardTarget card))
 
 pub card-ends : (f : ℕ → Target) (card : CardRequirement) → endsCard (endsBy f) card ≡ endsBy (withCard f card)
-unfolding withCard
-card-ends f card = go (ltb 7 (card .slot)) refl
-  where
-    go : (b : Bool) → ltb 7 (card .slot) ≡ b → cond b (endsBy f) (endsWith (endsBy f) (card .slot + 3) (cardTarget card)) ≡ endsBy (λ n. cond b (f n) (put f (card .slot + 3) (cardTarget card) n))
-    go true e = refl
-    go false e = put-ends f (card .slot + 3) (cardTarget card) (omega (arith, ltb-false 7 (card .slot) e))
+card-ends f card = carded endsBy _ f card (put-ends f (card .slot + 3) (cardTarget card))

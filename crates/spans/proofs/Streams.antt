@@ -102,19 +102,18 @@ module _ (width : ℕ) (file : List ℕ) (at : ℕ) (low : 3 ≤ width) (high : 
   unfolding decodedOperation
   length-one e = rw (eq-eqb _ 0 e)
 
+  last-byte : (opcode place : ℕ) → sizeOf width opcode ≡ place + 1 → place < operationMost → byte (part file at operationMost) place ≡ byte file (at + sizeOf width opcode - 1)
+  last-byte opcode place size within =
+      let last : at + sizeOf width opcode - 1 ≡ at + place = omega (arith, size) in
+      rw (last, byte-part file at operationMost place within)
+
   value-write : numbers .opcode ≡ 0 → numbers .value ≡ byte file (at + numbers .size - 1)
   unfolding decodedOperation
-  value-write e =
-      let size = size-is width 0 low high (omega arith) in
-      let last : at + sizeOf width 0 - 1 ≡ at + (2 + width) = omega (arith, size) in
-      rw (e, last, byte-part file at operationMost (2 + width) (omega arith))
+  value-write e = rw e (last-byte 0 (2 + width) (omega (arith, size-is width 0 low high (omega arith))) (omega arith))
 
   value-fill : numbers .opcode ≡ 1 → numbers .value ≡ byte file (at + numbers .size - 1)
   unfolding decodedOperation
-  value-fill e =
-      let size = size-is width 1 low high (omega arith) in
-      let last : at + sizeOf width 1 - 1 ≡ at + (6 + width) = omega (arith, size) in
-      rw (e, last, byte-part file at operationMost (6 + width) (omega arith))
+  value-fill e = rw e (last-byte 1 (6 + width) (omega (arith, size-is width 1 low high (omega arith))) (omega arith))
 
 module _ (file : List ℕ) (header : Header) (s : Stream) (acc : Accepted file header s) (two : header .version ≡ 2) where
   abbrev directory : ℕ
