@@ -1,5 +1,5 @@
 -- `fill_pace::fill_count` meets its contract: the numbers that it reads are the operation's, and its tests decide the definition's.
-use borrow.Author.Needs.{needs}
+use native.Mathlib.Omega.{arith}
 use borrow.Author.Tests.{lt-ltb, le-ltb}
 use mathlib.Core.Path.{_≡_, _∙_}
 use mathlib.Core.Bool.{cond}
@@ -45,6 +45,6 @@ pub fill-count-spec : {M : Type 1} → statement M
 unfolding fillCount decodedOperation
 fill-count-spec =
     tie.close
-    (tie.spec (search needs) (search needs) (λ c. simp (← (c .before .before .opcode-in .ensures), lt-ltb _ _ (c .if1 .taken))) returns-2 (search needs) (search needs) (search needs)
-    (search needs) (search needs) (search needs) (search needs) (search needs) (search needs) (search needs) (search needs) (λ c. rw (read (c .before), c .if3 .taken))
+    (tie.spec (λ c. omega arith) (λ c. omega arith) (λ c. simp (← (c .before .before .opcode-in .ensures), lt-ltb _ _ (c .if1 .taken))) returns-2 (λ c. omega arith) (λ c. omega arith) (λ c. omega arith)
+    (λ c. omega arith) (λ c. omega arith) (λ c. omega arith) (λ c. omega arith) (λ c. omega arith) (λ c. omega arith) (λ c. omega arith) (λ c. omega arith) (λ c. rw (read (c .before), c .if3 .taken))
     (λ c. rw (read (c .before), c .if3 .left)))

@@ -1,5 +1,4 @@
 -- `fill_pace::fills_from` meets its contract. The invariant: the walk from the start is the walk from where the loop is.
-use borrow.Author.Needs.{needs}
 use native.Mathlib.Omega.{arith}
 use borrow.Author.Tests.{ne-eqb, le-leb, lt-leb, le-ltb, lt-ltb, ltb-false}
 use Prim.Native.Nat.{ℕ, _+_, _≤_}
@@ -116,5 +115,5 @@ returns-5 c =
 pub fills-from-spec : {M : Type 1} → statement M
 fills-from-spec =
     tie.close
-    (tie.spec Inv-loop μ-loop loop-holds (search needs) returns (search needs) (search needs) returns-2 window-requires (search needs) (search needs) returns-3 (search needs) (search needs)
-    (search needs) (search needs) (search needs) returns-4 (search needs) (search needs) (search needs) add-at (search needs) (search needs) loop-again (search needs) returns-5)
+    (tie.spec Inv-loop μ-loop loop-holds (λ c. omega arith) returns (λ c. omega arith) (λ c. omega arith) returns-2 window-requires (λ c. omega arith) (λ c. omega arith) returns-3 (λ c. omega arith) (λ c. omega arith)
+    (λ c. omega arith) (λ c. omega arith) (λ c. omega arith) returns-4 (λ c. omega arith) (λ c. omega arith) (λ c. omega arith) add-at (λ c. omega arith) (λ c. omega arith) loop-again (λ c. omega arith) returns-5)

@@ -1,4 +1,5 @@
 -- `fill_pace::pace_fills` meets its contract: no version but 2 to 4 is walked, and the walk has that version's width and ranges.
+use native.Mathlib.Omega.{arith}
 use borrow.Author.Needs.{needs}
 use borrow.Author.Tests.{le-leb, lt-leb}
 use mathlib.Core.Bool.{and-false}
@@ -24,4 +25,4 @@ returns-3 c =
     rw (le-leb 2 v (e .before .if1 .left), le-leb v 4 (e .if2 .left), c .fills-from .ensures, w .address-width .ensures .0, r .address-ranges .ensures .0, r .address-ranges .ensures .1)
 
 pub pace-fills-spec : {M : Type 1} → statement M
-pace-fills-spec = tie.close (tie.spec (search needs) returns (search needs) returns-2 (search needs) (search needs) (search needs) returns-3)
+pace-fills-spec = tie.close (tie.spec (λ c. omega arith) returns (λ c. omega arith) returns-2 (search needs) (λ c. omega arith) (λ c. omega arith) returns-3)

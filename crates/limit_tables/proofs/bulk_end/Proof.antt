@@ -1,5 +1,5 @@
 -- `limit_tables::bulk_end` meets its contract: a missing target has 0, and any other the sum in `bulkEnd`, which 64 bits hold.
-use borrow.Author.Needs.{needs}
+use native.Mathlib.Omega.{arith}
 use Rattle.limit_tables.specs.Limits.{bulkEnd}
 use Rattle.limit_tables.proofs.bulk_end.Statement.{statement}
 use Rattle.limit_tables.proofs.bulk_end.Tie as tie
@@ -13,4 +13,4 @@ unfolding bulkEnd
 returns-2 c = simp (← (c .before .before .before .missing .ensures), c .before .before .if1 .left, ← (c .before .bulk-start .ensures), ← (c .bulk-length .ensures))
 
 pub bulk-end-spec : {M : Type 1} → statement M
-bulk-end-spec = tie.close (tie.spec (search needs) returns (search needs) (search needs) (search needs) (search needs) (search needs) (search needs) returns-2)
+bulk-end-spec = tie.close (tie.spec (λ c. omega arith) returns (λ c. omega arith) (λ c. omega arith) (λ c. omega arith) (λ c. omega arith) (λ c. omega arith) (λ c. omega arith) returns-2)

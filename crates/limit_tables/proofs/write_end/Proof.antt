@@ -1,5 +1,4 @@
 -- `limit_tables::write_end` meets its contract: a missing target has 0, and any other limit is below 2 ^ 32 - 1, so that its sum fits.
-use borrow.Author.Needs.{needs}
 use Rattle.limit_tables.proofs.Tabled.{write-limit-range}
 use native.Mathlib.Omega.{arith}
 use mathlib.Core.Bool.{and-false, or-false}
@@ -19,4 +18,4 @@ unfolding writeEnd
 returns-2 c = simp (← (c .before .before .missing .ensures), c .before .if1 .left, ← (c .write-limit .ensures), and-false, or-false)
 
 pub write-end-spec : {M : Type 1} → statement M
-write-end-spec = tie.close (tie.spec (search needs) returns (search needs) add-result returns-2)
+write-end-spec = tie.close (tie.spec (λ c. omega arith) returns (λ c. omega arith) add-result returns-2)

@@ -1,5 +1,4 @@
 -- The loop's invariant: the records still to compare decide.
-use borrow.Author.Needs.{needs}
 use Prim.Native.Nat.{_+_, _*_, _≤_}
 use mathlib.Core.Path.{_≡_, refl, _∙_}
 use native.Mathlib.Omega.{arith}
@@ -37,5 +36,5 @@ loop-again c =
 pub same-wave-spec : {M : Type 1} → statement M
 same-wave-spec =
     tie.close
-    (tie.spec Inv-loop μ-loop (λ c. (omega arith, omega arith, omega arith, refl)) (search needs) (search needs) (search needs) (search needs) returns (search needs) (search needs)
-    (search needs) (search needs) loop-again (λ c. let none : c .before .loop .left ≡ 0 = omega arith in rw (c .before .loop .inv .3, none, values-none, values-none)))
+    (tie.spec Inv-loop μ-loop (λ c. (omega arith, omega arith, omega arith, refl)) (λ c. omega arith) (λ c. omega arith) (λ c. omega arith) (λ c. omega arith) returns (λ c. omega arith) (λ c. omega arith)
+    (λ c. omega arith) (λ c. omega arith) loop-again (λ c. let none : c .before .loop .left ≡ 0 = omega arith in rw (c .before .loop .inv .3, none, values-none, values-none)))

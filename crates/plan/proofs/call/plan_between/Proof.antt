@@ -1,5 +1,5 @@
 -- `plan_between` goes by the part of what is next, as the definition does.
-use borrow.Author.Needs.{needs}
+use native.Mathlib.Omega.{arith}
 use Rattle.plan.proofs.Begins.{begins-opening, begins-frame, begins-closing-writes}
 use Rattle.plan.proofs.call.plan_between.Statement.{statement}
 use Rattle.plan.proofs.call.plan_between.Tie as tie
@@ -27,4 +27,4 @@ returns-3 c =
     (t .if1 .left) (c .before .before .if2 .left) (c .before .closing-at .ensures) (c .plan-closing .ensures)
 
 pub plan-between-spec : {M : Type 1} → statement M
-plan-between-spec = tie.close (tie.spec (search needs) (search needs) (search needs) returns (search needs) returns-2 (search needs) (search needs) returns-3)
+plan-between-spec = tie.close (tie.spec (λ c. omega arith) (λ c. omega arith) (λ c. omega arith) returns (λ c. omega arith) returns-2 (λ c. omega arith) (λ c. omega arith) returns-3)

@@ -1,6 +1,6 @@
 -- `plan::call::plan_call` meets its contract: a finished state is the first case, `foreign` decides `belongs`, and `plan_part` gives the rest.
+use native.Mathlib.Omega.{arith}
 use mathlib.Core.Path.{ap, _∙_}
-use borrow.Author.Needs.{needs}
 use Rattle.format.specs.Checked.{refuse}
 use Rattle.format.specs.Pace.{planned}
 use Rattle.belongs.proofs.Belongs.{foreign-is}
@@ -26,4 +26,4 @@ returns-3 c =
     (c .before .plan-part .ensures)
 
 pub plan-call-spec : {M : Type 1} → statement M
-plan-call-spec = tie.close (tie.spec returns (search needs) (search needs) returns-2 (search needs) (search needs) returns-3)
+plan-call-spec = tie.close (tie.spec returns (λ c. omega arith) (λ c. omega arith) returns-2 (λ c. omega arith) (λ c. omega arith) returns-3)

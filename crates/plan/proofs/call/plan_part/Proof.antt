@@ -1,6 +1,6 @@
 -- `plan::call::plan_part` meets its contract: each arm of the match is an arm of `plan`, and its callee gives that plan.
+use native.Mathlib.Omega.{arith}
 use mathlib.Core.Path.{sym, _∙_}
-use borrow.Author.Needs.{needs}
 use Rattle.format.specs.State.{partOf}
 use Rattle.plan.proofs.Begins.{goes-between, goes-opening, goes-frame, goes-closing}
 use Rattle.plan.proofs.call.plan_part.Statement.{statement}
@@ -29,4 +29,4 @@ returns-4 c =
 pub plan-part-spec : {M : Type 1} → statement M
 plan-part-spec =
     tie.close
-    (tie.spec (search needs) (search needs) (search needs) (search needs) (search needs) (search needs) (search needs) (search needs) (search needs) returns returns-2 returns-3 returns-4)
+    (tie.spec (λ c. omega arith) (λ c. omega arith) (λ c. omega arith) (λ c. omega arith) (λ c. omega arith) (λ c. omega arith) (λ c. omega arith) (λ c. omega arith) (λ c. omega arith) returns returns-2 returns-3 returns-4)

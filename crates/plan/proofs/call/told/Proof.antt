@@ -1,5 +1,5 @@
 -- `plan::call::told` meets its contract: its test decides that of `takenTold`, and `moved` gives the next state.
-use borrow.Author.Needs.{needs}
+use native.Mathlib.Omega.{arith}
 use Rattle.plan.proofs.call.told.Statement.{statement}
 use Rattle.plan.proofs.call.told.Tie as tie
 
@@ -10,4 +10,4 @@ returns-2 : tie.Need-returns-2
 returns-2 c = rw (c .before .before .if1 .left, c .moved .ensures)
 
 pub told-spec : {M : Type 1} → statement M
-told-spec = tie.close (tie.spec (search needs) returns (search needs) returns-2)
+told-spec = tie.close (tie.spec (λ c. omega arith) returns (λ c. omega arith) returns-2)

@@ -1,6 +1,6 @@
 -- `plan_closing` takes as many of the writes that are left as there is room for.
+use native.Mathlib.Omega.{arith}
 use borrow.Author.Tests.{lt-ltb, le-ltb}
-use borrow.Author.Needs.{needs}
 use Rattle.plan.proofs.closing.plan_closing.Statement.{statement}
 use Rattle.plan.proofs.closing.plan_closing.Tie as tie
 
@@ -15,4 +15,4 @@ returns-2 c =
 pub plan-closing-spec : {M : Type 1} → statement M
 plan-closing-spec =
     tie.close
-    (tie.spec (search needs) (search needs) returns (search needs) (search needs) (search needs) (search needs) (search needs) (search needs) (search needs) returns-2)
+    (tie.spec (λ c. omega arith) (λ c. omega arith) returns (λ c. omega arith) (λ c. omega arith) (λ c. omega arith) (λ c. omega arith) (λ c. omega arith) (λ c. omega arith) (λ c. omega arith) returns-2)

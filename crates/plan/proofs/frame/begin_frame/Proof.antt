@@ -6,7 +6,6 @@ use native.Mathlib.Omega.{arith}
 use borrow.Author.Tests.{ltb-false}
 use Rattle.format.specs.Player.{frameBegun}
 use Rattle.plan.specs.declared.taken.Taken.{Taken}
-use borrow.Author.Needs.{needs}
 use Rattle.plan.proofs.frame.begin_frame.Statement.{statement}
 use Rattle.plan.proofs.frame.begin_frame.Tie as tie
 
@@ -26,4 +25,4 @@ returns-2 c =
     (rw (← (n .before .before .passes .ensures), n .before .if1 .left, ← (n .read-u16 .ensures), ← (c .before .frame-begun .ensures)) (c .plan-frame .ensures .0), c .plan-frame .ensures .1)
 
 pub begin-frame-spec : {M : Type 1} → statement M
-begin-frame-spec = tie.close (tie.spec (search needs) (search needs) returns (search needs) (search needs) add-frame-begun (search needs) (search needs) (search needs) returns-2)
+begin-frame-spec = tie.close (tie.spec (λ c. omega arith) (λ c. omega arith) returns (λ c. omega arith) (λ c. omega arith) add-frame-begun (λ c. omega arith) (λ c. omega arith) (λ c. omega arith) returns-2)

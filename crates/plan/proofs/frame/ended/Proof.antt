@@ -1,5 +1,5 @@
 -- `plan::frame::ended` meets its contract: whether an operation is left decides, as in the definition, and the count stays in both cases.
-use borrow.Author.Needs.{needs}
+use native.Mathlib.Omega.{arith}
 use borrow.Author.Tests.{eq-eqb, ne-eqb}
 use mathlib.Core.Path.{refl}
 use Rattle.plan.proofs.frame.ended.Statement.{statement}
@@ -16,4 +16,4 @@ returns-2 c =
     (rw (← (left .operations-left .ensures .0), eq-eqb _ _ (c .before .if1 .left), c .frame-ended .ensures), refl)
 
 pub ended-spec : {M : Type 1} → statement M
-ended-spec = tie.close (tie.spec (search needs) returns (search needs) returns-2)
+ended-spec = tie.close (tie.spec (λ c. omega arith) returns (λ c. omega arith) returns-2)

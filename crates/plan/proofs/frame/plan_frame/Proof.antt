@@ -1,5 +1,4 @@
 -- `plan::frame::plan_frame` meets its contract: what `pace` takes, ended, is the frame's plan (`told-frame`), and is at most the room.
-use borrow.Author.Needs.{needs}
 use native.Mathlib.Omega.{arith}
 use Rattle.plan.proofs.Telling.{told-frame}
 use mathlib.Core.Path.{ap}
@@ -16,4 +15,4 @@ returns c =
     )
 
 pub plan-frame-spec : {M : Type 1} → statement M
-plan-frame-spec = tie.close (tie.spec (search needs) (search needs) (search needs) returns)
+plan-frame-spec = tie.close (tie.spec (λ c. omega arith) (λ c. omega arith) (λ c. omega arith) returns)

@@ -1,5 +1,4 @@
 -- `plan::opening::plan_opening` meets its contract: frame 1 follows only where no operation is left, and both take at most the room.
-use borrow.Author.Needs.{needs}
 use native.Mathlib.Omega.{arith}
 use borrow.Author.Tests.{eq-eqb, ne-eqb}
 use Prim.Native.Nat.{_-_}
@@ -48,4 +47,4 @@ returns-3 c =
     (c .before .begin-frame .result) (c .before .begin-frame .ensures .0))
 
 pub plan-opening-spec : {M : Type 1} → statement M
-plan-opening-spec = tie.close (tie.spec (search needs) (search needs) (search needs) returns (search needs) returns-2 (search needs) behind-requires returns-3)
+plan-opening-spec = tie.close (tie.spec (λ c. omega arith) (λ c. omega arith) (λ c. omega arith) returns (λ c. omega arith) returns-2 (λ c. omega arith) behind-requires returns-3)

@@ -1,6 +1,5 @@
 -- `same::part::none_kept` meets its contract. The loop's invariant: none of all records counts exactly where none of those that are left
 -- does, and their places are small. The measure is the records that are left.
-use borrow.Author.Needs.{needs}
 use Prim.Native.Nat.{_+_, _*_, _≤_}
 use mathlib.Core.List.{[]}
 use mathlib.Core.Path.{_≡_, refl}
@@ -53,5 +52,5 @@ returns-2 c =
 pub none-kept-spec : {M : Type 1} → statement M
 none-kept-spec =
     tie.close
-    (tie.spec Inv-loop μ-loop loop-holds (λ c κs. search needs) (λ c κs. search needs) (λ c κs. search needs) returns (λ c. search needs) (λ c. search needs) (λ c. search needs) loop-again
+    (tie.spec Inv-loop μ-loop loop-holds (λ c. omega arith) (λ c. omega arith) (λ c. omega arith) returns (λ c. omega arith) (λ c. omega arith) (λ c. omega arith) loop-again
     returns-2)

@@ -1,5 +1,5 @@
 -- `same::part::same_opening` meets its contract: the answer for the part behind the header, as a Bool.
-use borrow.Author.Needs.{needs}
+use native.Mathlib.Omega.{arith}
 use mathlib.Core.Bool.{false}
 use mathlib.Core.Path.{sym, _∙_}
 use Rattle.format.specs.Size.{masterHeaderSize}
@@ -22,4 +22,4 @@ returns-2 c =
     sym (part-differs false (a .master .now) (a .other .now) (a .directory) (a .records) masterHeaderSize (a .operations) (a .«other-start») told)
 
 pub same-opening-spec : {M : Type 1} → statement M
-same-opening-spec = tie.close (tie.spec (λ c κs. search needs) (λ c. search needs) (λ c. search needs) returns returns-2)
+same-opening-spec = tie.close (tie.spec (λ c. omega arith) (λ c. omega arith) (λ c. omega arith) returns returns-2)

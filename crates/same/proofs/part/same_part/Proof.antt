@@ -1,6 +1,5 @@
 -- `same::part::same_part` meets its contract. The loop's invariant: the match of all is the match of the records and operations that are
 -- left, and their places are small. The measure is the operations that are left.
-use borrow.Author.Needs.{needs}
 use native.Mathlib.Omega.{arith}
 use Prim.Native.Nat.{_+_, _*_, _≤_}
 use mathlib.Core.Path.{_≡_, refl, sym, ap, _∙_}
@@ -72,5 +71,5 @@ returns-3 c =
 pub same-part-spec : {M : Type 1} → statement M
 same-part-spec =
     tie.close
-    (tie.spec Inv-loop μ-loop loop-holds (λ c κs. search needs) same-operation-requires (λ c. search needs) (λ c. search needs) returns (λ c. search needs) (λ c. search needs) loop-again
-    (λ c κs. search needs) returns-2 returns-3)
+    (tie.spec Inv-loop μ-loop loop-holds (λ c. omega arith) same-operation-requires (λ c. omega arith) (λ c. omega arith) returns (λ c. omega arith) (λ c. omega arith) loop-again
+    (λ c. omega arith) returns-2 returns-3)

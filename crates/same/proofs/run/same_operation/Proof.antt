@@ -1,5 +1,5 @@
 -- `same::run::same_operation` meets its contract, by whether the segment counts.
-use borrow.Author.Needs.{needs}
+use native.Mathlib.Omega.{arith}
 use Rattle.same.specs.Match.{matchedOperation}
 use Rattle.same.proofs.run.same_operation.Statement.{statement}
 use Rattle.same.proofs.run.same_operation.Tie as tie
@@ -13,4 +13,4 @@ unfolding matchedOperation
 returns-2 c = rw (← (c .before .is-kept .ensures), c .if1 .left)
 
 pub same-operation-spec : {M : Type 1} → statement M
-same-operation-spec = tie.close (tie.spec (λ c κs. search needs) (λ c κs. search needs) returns returns-2)
+same-operation-spec = tie.close (tie.spec (λ c. omega arith) (λ c. omega arith) returns returns-2)

@@ -1,5 +1,5 @@
 -- `same::run::same_record` meets its contract: target, address and value are compared in the definition's order.
-use borrow.Author.Needs.{needs}
+use native.Mathlib.Omega.{arith}
 use borrow.Author.Tests.{eq-eqb, ne-eqb}
 use Rattle.same.proofs.run.same_record.Statement.{statement}
 use Rattle.same.proofs.run.same_record.Tie as tie
@@ -14,4 +14,4 @@ returns-3 : tie.Need-returns-3
 returns-3 c = rw (eq-eqb _ _ (c .before .before .before .if1 .left), eq-eqb _ _ (c .before .if2 .left))
 
 pub same-record-spec : {M : Type 1} → statement M
-same-record-spec = tie.close (tie.spec returns (search needs) returns-2 returns-3)
+same-record-spec = tie.close (tie.spec returns (λ c. omega arith) returns-2 returns-3)

@@ -1,6 +1,5 @@
 -- `same::run::same_segment` meets its contract. The loop's invariant: the match of all is the match of the records and writes that are
 -- left, and their places are small. The measure is the records that are left.
-use borrow.Author.Needs.{needs}
 use native.Mathlib.Omega.{arith}
 use Prim.Native.Nat.{_+_, _*_, _≤_}
 use mathlib.Core.Path.{_≡_, refl, sym, _∙_}
@@ -98,6 +97,6 @@ returns-3 c =
 pub same-segment-spec : {M : Type 1} → statement M
 same-segment-spec =
     tie.close
-    (tie.spec Inv-loop μ-loop (λ c. search needs) (λ c κs. search needs) loop-holds returns (λ c κs. search needs) (λ c κs. search needs) (λ c κs. search needs) (λ c κs. search needs)
-    (λ c κs. search needs) (λ c. search needs) (λ c. search needs) add-source (λ c. search needs) (λ c. search needs) (λ c. search needs) loop-again returns-2 (λ c. search needs)
-    (λ c. search needs) (λ c. search needs) loop-again-2 returns-3)
+    (tie.spec Inv-loop μ-loop (λ c. omega arith) (λ c. omega arith) loop-holds returns (λ c. omega arith) (λ c. omega arith) (λ c. omega arith) (λ c. omega arith)
+    (λ c. omega arith) (λ c. omega arith) (λ c. omega arith) add-source (λ c. omega arith) (λ c. omega arith) (λ c. omega arith) loop-again returns-2 (λ c. omega arith)
+    (λ c. omega arith) (λ c. omega arith) loop-again-2 returns-3)
