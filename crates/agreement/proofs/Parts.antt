@@ -32,7 +32,8 @@ pub record Plays (file : List ℕ) (s : Stream) (k : ℕ) (rest : List WriteReco
   pub phase : Phase file s next (cond (leb (length rest) room) (suc k) k) (cond (leb (length rest) room) (vsync s (suc k)) (drop room rest))
   pub sources : leb (length rest) room ≡ true → next .«wave_sources» ≡ wavesBefore file s (suc k)
 
-pub played-is : {a b : List WriteRecord} {c d : Bool} (next : StreamPlayer) → a ≡ b → c ≡ d → _≡_ {A = Checked Played} (ok (record { records = a; complete = c; next = next })) (ok (record { records = b; complete = d; next = next }))
+pub played-is : {a b : List WriteRecord} {c d : Bool} (next : StreamPlayer) → a ≡ b → c ≡ d
+    → _≡_ {A = Checked Played} (ok (record { records = a; complete = c; next = next })) (ok (record { records = b; complete = d; next = next }))
 played-is next e f = λ i. ok (record { records = e i; complete = f i; next = next })
 
 -- room for the second of two lists, once the first is taken

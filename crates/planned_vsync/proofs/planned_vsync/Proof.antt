@@ -116,7 +116,11 @@ module _ {M : Type 1} (𝓤 : URA M) (H : Heap 𝓤) (A : Atoms 𝓤) (W : Given
       qed W (Left r zs) ∵
       suffices ! _ (ends-at 𝓤 H A f.ended stayed (f.clauses 𝓤 H A at-mem run) W ((((x .κ), ((x .κ₂), ((x .κ₃), tt))), ((x .q), ((x .q₂), ((x .q₃), tt))), tt, (args x), (vals x)), tt)
       (ans r) (toldOf r) (r .next, (tt, (zs, tt))) (tt, (tt, (l, tt)))) $
-      says ! (ap toldOf e ∙ told-is (x .h) (x .bs) (x .ys), ap (λ (z : CallPlan). z .next) e ∙ state-is (x .h) (x .bs) (x .ys), e′ ∙ ap (λ (z : CallPlan). storedCall (x .bs) (x .h) (z .count) (x .ys)) e ∙ run-is (x .h) (x .bs) (x .ys)) $
+      says ! (
+        ap toldOf e ∙ told-is (x .h) (x .bs) (x .ys),
+        ap (λ (z : CallPlan). z .next) e ∙ state-is (x .h) (x .bs) (x .ys),
+        e′ ∙ ap (λ (z : CallPlan). storedCall (x .bs) (x .h) (z .count) (x .ys)) e ∙ run-is (x .h) (x .bs) (x .ys),
+      ) $
       nothing ! $ move ! (5 ∷ 0 ∷ []) $ join ! $ move ! (4 ∷ 0 ∷ []) $ join ! $ move ! (3 ∷ 0 ∷ []) $ join ! $ frame ! $ feqI ! (List Val) (vptr (x .b) (x .o) ∷ []) (vptr (x .b) (x .o) ∷ []) refl $ fjoin3 ! $
       nothing ! $ move ! (2 ∷ 0 ∷ []) $ fjoin ! $ move ! (2 ∷ 0 ∷ []) $ fjoin ! $ move ! (1 ∷ 0 ∷ []) $ fjoin ! $
       owned ! Y.the-row (Is Y.the-row) ((LL.makes Y.the-type Y′.the-plain) 𝓤 H A) (toldOf r) _ (ans-is r is) $ move ! (1 ∷ 0 ∷ []) $ done !
@@ -132,7 +136,16 @@ module _ {M : Type 1} (𝓤 : URA M) (H : Heap 𝓤) (A : Atoms 𝓤) (W : Given
       nothing ! $ move ! (1 ∷ 2 ∷ 0 ∷ []) $ join ! $ join ! $ done !
 
   abbrev to-store : CallPlan → Stores 𝓤 H A at-mem run .Ghost
-  to-store r = ((((x .κ₃), ((x .κ₂), tt)), ((x .q₃), ((x .q₂), tt)), tt, ((x₃ x), ((x₂ x), ((x .h), (r .count, tt)))), ((s₃ x) ∷ [], ((s₂ x) ∷ [], (LL.vals P.the-type P′.the-laws (x .h), (vint w64 (r .count) ∷ [], tt))))), tt)
+  to-store r = (
+    (
+      ((x .κ₃), ((x .κ₂), tt)),
+      ((x .q₃), ((x .q₂), tt)),
+      tt,
+      ((x₃ x), ((x₂ x), ((x .h), (r .count, tt)))),
+      ((s₃ x) ∷ [], ((s₂ x) ∷ [], (LL.vals P.the-type P′.the-laws (x .h), (vint w64 (r .count) ∷ [], tt)))),
+    ),
+    tt,
+  )
 
   goes-store : (r : CallPlan) → Is P.the-row (x .h) (LL.vals P.the-type P′.the-laws (x .h)) → Is S.the-row r (LL.vals S.the-type S′.the-laws r)
       → ent 𝓤 (sep 𝓤 (A .lft (x .κ₃) (x .q₃)) (sep 𝓤 (A .lft (x .κ₂) (x .q₂)) (sep 𝓤 (sem 𝓤 H A (Run x)) (sem 𝓤 H A (File x))))) (Stores 𝓤 H A at-mem run .pre (to-store r))
@@ -232,7 +245,9 @@ module _ {M : Type 1} (𝓤 : URA M) (H : Heap 𝓤) (A : Atoms 𝓤) (W : Given
           split ! $ keep ! (3 ∷ 4 ∷ 5 ∷ 6 ∷ 0 ∷ 7 ∷ 8 ∷ 2 ∷ 9 ∷ 10 ∷ 11 ∷ 12 ∷ 13 ∷ 14 ∷ 15 ∷ 16 ∷ 17 ∷ 18 ∷ 19 ∷ 20 ∷ 21 ∷ 22 ∷ 23 ∷ 24 ∷ 25 ∷ 26 ∷ 27 ∷ 28 ∷ []) $
           stores r e was (subst (Is S.the-row r) (LL.tells S.the-type S′.the-laws r _ is) is)))))
 
-    walk : ent 𝓤 (onEntry 𝓤 H A f.signature ((x .κ), ((x .κ₂), ((x .κ₃), tt))) ((x .q), ((x .q₂), ((x .q₃), tt))) (args x) (vals x)) (WpFn 𝓤 H C Λ code.function (vptr (x .b) (x .o) ∷ (s₂ x) ∷ (s₃ x) ∷ []) Post)
+    walk :
+        ent 𝓤 (onEntry 𝓤 H A f.signature ((x .κ), ((x .κ₂), ((x .κ₃), tt))) ((x .q), ((x .q₂), ((x .q₃), tt))) (args x) (vals x))
+        (WpFn 𝓤 H C Λ code.function (vptr (x .b) (x .o) ∷ (s₂ x) ∷ (s₃ x) ∷ []) Post)
     walk =
         qed W ((‵ (flft (x .κ) (x .q)) ⊛ ‵ (flft (x .κ₂) (x .q₂)) ⊛ ‵ (flft (x .κ₃) (x .q₃)) ⊛ ‵ ftrue)
         ∷ ‵ (owns (MutRef (named 0) (x .κ) P.the-row ∷ ShrSlice (named 1) (x .κ₂) u8 ∷ MutSlice (named 2) (x .κ₃) T.the-row ∷ []) (args x) (vals x)) ∷ [])
