@@ -3,7 +3,7 @@ use Prim.Native.Nat.{ℕ}
 use mathlib.Core.Bool.{true}
 use mathlib.Core.List.{List, []}
 use mathlib.Core.Path.{_≡_, refl, sym, ap, _∙_}
-use Rattle.format.specs.Agreement.{Demand3}
+use Rattle.format.specs.Promises.{Demand3}
 use Rattle.format.specs.Checked.{ok}
 use Rattle.format.specs.Compare.{coreWrites, played}
 use Rattle.format.specs.Listener.{Call, answers, AllAdmissible, completed, begunNoFurther, vsyncsFrom, newListener, heardAll}

@@ -10,7 +10,7 @@ use Rattle.format.specs.Compare.{coreWrites, played}
 use Rattle.format.specs.Listener.{vsyncsFrom, Listener, newListener}
 use Rattle.format.specs.Stream.{Stream}
 use Rattle.format.specs.Writes.{openingWrites, frameWrites, usesSi22, silence, closingWrites, closing, vsync}
-use Rattle.format.proofs.Compared.{Agree}
+use Rattle.format.specs.Promises.{Agree}
 use Rattle.format.proofs.Same.{core-append, played-append}
 use Rattle.agreement.proofs.Heard.{heardVsyncs, between}
 

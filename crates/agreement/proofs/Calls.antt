@@ -12,15 +12,16 @@ use lib.Seq.{take-all}
 use Rattle.format.specs.declared.player.StreamPlayer.{StreamPlayer}
 use Rattle.format.specs.declared.operation.WriteRecord.{WriteRecord}
 use Rattle.format.specs.Checked.{Checked, ok, refused}
-use Rattle.format.specs.Listener.{Call, after, answers, reached, Admissible, ownFile, refusedFile, finishedState, AllAdmissible, completed, resting, begunNoFurther, callsFor, recordsFrom, vsyncRecords, vsyncsFrom, wavesBefore}
+use Rattle.format.specs.Listener.{Call, after, answers, sameCalls, reached, Admissible, ownFile, refusedFile, finishedState, AllAdmissible, completed, resting, begunNoFurther, callsFor, recordsFrom, vsyncRecords, underWayFrom, vsyncsFrom}
 use Rattle.format.specs.Player.{Played, call}
+use Rattle.format.specs.Promises.{OwnFilePlays, EachVsync, CallsOfVsync}
 use Rattle.format.specs.State.{started}
 use Rattle.format.specs.Stream.{Stream, read}
 use Rattle.format.specs.Writes.{vsync}
 use Rattle.format.proofs.Checks.{refused-not-ok}
 use Rattle.agreement.proofs.Heard.{Goes, finished-any}
 use Rattle.agreement.proofs.Phases.{Holds}
-use Rattle.agreement.proofs.Vsync.{one-lemma, start-holds, complete-sources, start-sources}
+use Rattle.agreement.proofs.Vsync.{one-lemma, start-holds}
 
 -- W/n rounded up, at least one, is the least count of calls, above none, whose rooms hold W writes
 record Rounded (writes room calls : ℕ) : Type 0 where
@@ -54,18 +55,15 @@ rounded-up writes room some = go ((writes + (room - 1)) / room) refl
 module _ (file : List ℕ) (s : Stream) (accepted : read file ≡ ok s) where
   -- WHAT STATE CALLS REACH
 
-  -- no vsync is begun when vsync k comes
-  pub record Rests (state : StreamPlayer) (k : ℕ) : Type 0 where
-    pub holds : Holds file s state k (vsync s k)
-    pub sources : state .progress .«wave_sources» ≡ wavesBefore file s k
-
   -- what answers come to that were told from a state on, at vsync k, of which some records were given and `rest` remained: each
-  -- vsync's records are its writes, and the final state holds, and rests where no further vsync is begun
-  record Left (last : Bool) (state : StreamPlayer) (k : ℕ) (rest current : List WriteRecord) (told : List (Checked Played)) (final : StreamPlayer) : Type 0 where
+  -- vsync's records are its writes, those of the vsync under way are its first, and the final state holds what is left; that is a
+  -- whole vsync where no further one is begun
+  pub record Left (last : Bool) (state : StreamPlayer) (k : ℕ) (rest current : List WriteRecord) (told : List (Checked Played)) (final : StreamPlayer) : Type 0 where
     pub records : current ++ rest ≡ vsync s k → recordsFrom current told ≡ vsyncsFrom s k (completed told)
     pub rest′ : List WriteRecord
     pub holds : Holds file s final (k + completed told) rest′
-    pub rests : (last ≡ true → Rests state k) → resting last told ≡ true → Rests final (k + completed told)
+    pub first : current ++ rest ≡ vsync s k → underWayFrom current told ++ rest′ ≡ vsync s (k + completed told)
+    pub rests : (last ≡ true → rest ≡ vsync s k) → resting last told ≡ true → rest′ ≡ vsync s (k + completed told)
 
   abbrev Leaves : List Call → Type 0
   Leaves calls =
@@ -74,10 +72,10 @@ module _ (file : List ℕ) (s : Stream) (accepted : read file ≡ ok s) where
   -- after an answer that took what there was room for
   settled : (calls : List Call) → Leaves calls → (last : Bool) (state : StreamPlayer) (k : ℕ) (rest current : List WriteRecord) (room : ℕ) (next : StreamPlayer) (done : Bool)
       → leb (length rest) room ≡ done → Holds file s next (cond done (suc k) k) (cond done (vsync s (suc k)) (drop room rest))
-      → (done ≡ true → next .progress .«wave_sources» ≡ wavesBefore file s (suc k)) → AllAdmissible file next calls
+      → AllAdmissible file next calls
       → Left last state k rest current (ok (record { records = take room rest; complete = done; next = next }) ∷ answers next calls) (reached next calls)
-  unfolding completed resting recordsFrom vsyncsFrom
-  settled calls leaves last state k rest current room next true e holds sources admissible =
+  unfolding completed resting recordsFrom underWayFrom vsyncsFrom
+  settled calls leaves last state k rest current room next true e holds admissible =
       let left = leaves true next (suc k) (vsync s (suc k)) [] holds admissible in
       let count : suc k + completed (answers next calls) ≡ k + suc (completed (answers next calls)) = omega arith in
       let all : take room rest ≡ rest = take-all room rest (leb-true _ _ e) in
@@ -85,36 +83,41 @@ module _ (file : List ℕ) (s : Stream) (accepted : read file ≡ ok s) where
         records = λ joined. ap₂ _∷_ (ap (λ (l : List WriteRecord). current ++ l) all ∙ joined) (left .records refl);
         rest′ = left .rest′;
         holds = rw count at (left .holds);
-        rests = λ start rests. subst (Rests (reached next calls)) count (left .rests (λ e. record { holds = holds; sources = sources refl }) rests);
+        first = λ joined. left .first refl ∙ ap (vsync s) count;
+        rests = λ start rests. left .rests (λ e. refl) rests ∙ ap (vsync s) count;
       }
-  settled calls leaves last state k rest current room next false e holds sources admissible =
+  settled calls leaves last state k rest current room next false e holds admissible =
       let left = leaves false next k (drop room rest) (current ++ take room rest) holds admissible in
       let regrouped : current ++ take room rest ++ drop room rest ≡ current ++ rest = append-assoc current (take room rest) (drop room rest) ∙ ap (λ (l : List WriteRecord). current ++ l) (take-append-drop room rest) in
-      record { records = λ joined. left .records (regrouped ∙ joined); rest′ = left .rest′; holds = left .holds; rests = λ start rests. left .rests (λ e. absurd (false≢true e)) rests }
+      record {
+        records = λ joined. left .records (regrouped ∙ joined);
+        rest′ = left .rest′;
+        holds = left .holds;
+        first = λ joined. left .first (regrouped ∙ joined);
+        rests = λ start rests. left .rests (λ e. absurd (false≢true e)) rests;
+      }
 
   went : (calls : List Call) → Leaves calls → (last : Bool) (state : StreamPlayer) (k : ℕ) (rest current : List WriteRecord) (room : ℕ) (answer : Checked Played)
-      → Goes s (Holds file s) k rest room answer → ((a : Played) → answer ≡ ok a → a .complete ≡ true → a .next .progress .«wave_sources» ≡ wavesBefore file s (suc k))
-      → AllAdmissible file (after state answer) calls → Left last state k rest current (answer ∷ answers (after state answer) calls) (reached (after state answer) calls)
-  went calls leaves last state k rest current room answer goes sources admissible =
-      rw (goes .is) (settled calls leaves last state k rest current room (goes .next) (leb (length rest) room) refl (goes .holds) (λ e. sources _ (goes .is) e) (rw (goes .is) at admissible))
+      → Goes s (Holds file s) k rest room answer → AllAdmissible file (after state answer) calls → Left last state k rest current (answer ∷ answers (after state answer) calls) (reached (after state answer) calls)
+  went calls leaves last state k rest current room answer goes admissible =
+      rw (goes .is) (settled calls leaves last state k rest current room (goes .next) (leb (length rest) room) refl (goes .holds) (rw (goes .is) at admissible))
 
   -- after a refusal nothing has changed
   kept : (calls : List Call) → Leaves calls → (last : Bool) (state : StreamPlayer) (k : ℕ) (rest current : List WriteRecord) (answer : Checked Played) → answer ≡ refused 25 0
       → Holds file s state k rest → AllAdmissible file (after state answer) calls
       → Left last state k rest current (answer ∷ answers (after state answer) calls) (reached (after state answer) calls)
-  unfolding completed resting recordsFrom
+  unfolding completed resting recordsFrom underWayFrom
   kept calls leaves last state k rest current (ok answer) e holds admissible = absurd (refused-not-ok (sym e))
   kept calls leaves last state k rest current (refused number place) e holds admissible =
       let left = leaves last state k rest current holds admissible in
-      record { records = left .records; rest′ = left .rest′; holds = left .holds; rests = left .rests }
+      record { records = left .records; rest′ = left .rest′; holds = left .holds; first = left .first; rests = left .rests }
 
   -- a call with the file itself, or with any on a finished state
   own-call : (c : Call) (calls : List Call) → Leaves calls → (last : Bool) (state : StreamPlayer) (k : ℕ) (rest current : List WriteRecord) → Holds file s state k rest
       → call state (c .file) (c .room) ≡ call state file (c .room) → AllAdmissible file (after state (call state (c .file) (c .room))) calls
       → Left last state k rest current (call state (c .file) (c .room) ∷ answers (after state (call state (c .file) (c .room))) calls) (reached (after state (call state (c .file) (c .room))) calls)
   own-call c calls leaves last state k rest current holds same admissible =
-      went calls leaves last state k rest current (c .room) (call state (c .file) (c .room)) (rw same (one-lemma file s accepted state k rest holds (c .room)))
-      (λ a e complete. complete-sources file s accepted state k rest holds (c .room) a (sym same ∙ e) complete) admissible
+      went calls leaves last state k rest current (c .room) (call state (c .file) (c .room)) (rw same (one-lemma file s accepted state k rest holds (c .room))) admissible
 
   answered : (c : Call) (calls : List Call) → Leaves calls → (last : Bool) (state : StreamPlayer) (k : ℕ) (rest current : List WriteRecord) → Holds file s state k rest
       → Admissible file state c → AllAdmissible file (after state (call state (c .file) (c .room))) calls
@@ -127,44 +130,36 @@ module _ (file : List ℕ) (s : Stream) (accepted : read file ≡ ok s) where
       own-call c calls leaves last state k rest current holds (finished-any state (c .file) file (c .room) e) admissible
 
   left-by : (calls : List Call) → Leaves calls
-  unfolding answers reached completed resting recordsFrom vsyncsFrom
+  unfolding answers reached completed resting recordsFrom underWayFrom vsyncsFrom
   left-by [] last state k rest current holds admissible =
       let count : k ≡ k + 0 = omega arith in
-      record { records = λ joined. refl; rest′ = rest; holds = rw count at holds; rests = λ start rests. subst (Rests state) count (start rests) }
+      record { records = λ joined. refl; rest′ = rest; holds = rw count at holds; first = λ joined. joined ∙ ap (vsync s) count; rests = λ start rests. start rests ∙ ap (vsync s) count }
   left-by (c ∷ calls) last state k rest current holds admissible =
       answered c calls (left-by calls) last state k rest current holds (admissible .0) (admissible .1)
 
-  from-start : (calls : List Call) → AllAdmissible file (started file) calls → Left true (started file) 0 (vsync s 0) [] (answers (started file) calls) (reached (started file) calls)
+  pub from-start : (calls : List Call) → AllAdmissible file (started file) calls → Left true (started file) 0 (vsync s 0) [] (answers (started file) calls) (reached (started file) calls)
   from-start calls admissible = left-by calls true (started file) 0 (vsync s 0) [] (start-holds file s accepted) admissible
 
   -- each vsync's records, over its calls, are its writes
-  pub each-vsync : (calls : List Call) → AllAdmissible file (started file) calls → vsyncRecords (answers (started file) calls) ≡ vsyncsFrom s 0 (completed (answers (started file) calls))
-  each-vsync calls admissible = from-start calls admissible .records refl
+  records-are : (calls : List Call) → AllAdmissible file (started file) calls → vsyncRecords (answers (started file) calls) ≡ vsyncsFrom s 0 (completed (answers (started file) calls))
+  records-are calls admissible = from-start calls admissible .records refl
 
   -- after admissible calls, a call with the file itself is not refused
-  pub own-never-refused : (calls : List Call) → AllAdmissible file (started file) calls → (room : ℕ) → (answer : Played) × (call (reached (started file) calls) file room ≡ ok answer)
-  own-never-refused calls admissible room =
+  never-refused : (calls : List Call) → AllAdmissible file (started file) calls → (room : ℕ) → (answer : Played) × (call (reached (started file) calls) file room ≡ ok answer)
+  never-refused calls admissible room =
       let left = from-start calls admissible in
       let goes = one-lemma file s accepted (reached (started file) calls) (0 + completed (answers (started file) calls)) (left .rest′) (left .holds) room in
       (_, goes .is)
 
-  -- and where no further vsync is begun, the state rests
-  pub reached-rests : (calls : List Call) → AllAdmissible file (started file) calls → begunNoFurther (answers (started file) calls) ≡ true → Rests (reached (started file) calls) (completed (answers (started file) calls))
+  -- and where no further vsync is begun, a whole one is left
+  reached-rests : (calls : List Call) → AllAdmissible file (started file) calls → begunNoFurther (answers (started file) calls) ≡ true
+      → Holds file s (reached (started file) calls) (completed (answers (started file) calls)) (vsync s (completed (answers (started file) calls)))
   reached-rests calls admissible rests =
       let left = from-start calls admissible in
       let none : 0 + completed (answers (started file) calls) ≡ completed (answers (started file) calls) = omega arith in
-      subst (Rests (reached (started file) calls)) none (left .rests (λ e. record { holds = start-holds file s accepted; sources = start-sources file s accepted }) rests)
-
-  -- `wave_source` is the pool last copied in the vsyncs that are completed
-  pub wave-sources : (calls : List Call) → AllAdmissible file (started file) calls → begunNoFurther (answers (started file) calls) ≡ true
-      → reached (started file) calls .progress .«wave_sources» ≡ wavesBefore file s (completed (answers (started file) calls))
-  wave-sources calls admissible rests = reached-rests calls admissible rests .sources
+      rw none at (subst (Holds file s (reached (started file) calls) (0 + completed (answers (started file) calls))) (left .rests (λ e. refl) rests) (left .holds))
 
   -- HOW MANY CALLS A VSYNC TAKES
-
-  -- so many calls with the file itself and one room
-  abbrev same : (room count : ℕ) → List Call
-  same room count = replicate count (record { file = file; room = room })
 
   -- a call that leaves some of the vsync completes nothing
   record Stays (state : StreamPlayer) (k : ℕ) (rest : List WriteRecord) (room : ℕ) : Type 0 where
@@ -190,40 +185,51 @@ module _ (file : List ℕ) (s : Stream) (accepted : read file ≡ ok s) where
       ap (λ (a : Checked Played). completed (a ∷ answers (after state a) [])) is
 
   -- while so many calls leave some of the vsync, none is completed
-  none-yet : (count room : ℕ) (state : StreamPlayer) (k : ℕ) (rest : List WriteRecord) → Holds file s state k rest → count * room < length rest → completed (answers state (same room count)) ≡ 0
+  none-yet : (count room : ℕ) (state : StreamPlayer) (k : ℕ) (rest : List WriteRecord) → Holds file s state k rest → count * room < length rest → completed (answers state (sameCalls file room count)) ≡ 0
   unfolding completed answers
   none-yet zero room state k rest holds less = refl
   none-yet (suc count) room state k rest holds less =
       let room-first : count * room + room < length rest = rw suc-mul at less in
       let stay = stays state k rest room holds (omega arith) in
-      stay .counts (same room count) ∙ none-yet count room (stay .next) k (drop room rest) (stay .holds) (omega (arith, length-drop room rest))
+      stay .counts (sameCalls file room count) ∙ none-yet count room (stay .next) k (drop room rest) (stay .holds) (omega (arith, length-drop room rest))
 
   -- and the call that leaves none completes it
   one-then : (count room : ℕ) (state : StreamPlayer) (k : ℕ) (rest : List WriteRecord) → Holds file s state k rest → length rest ≤ suc count * room
-      → (0 < count → count * room < length rest) → completed (answers state (same room (suc count))) ≡ 1
+      → (0 < count → count * room < length rest) → completed (answers state (sameCalls file room (suc count))) ≡ 1
   one-then zero room state k rest holds enough less = ends state k rest room holds (omega arith)
   one-then (suc count) room state k rest holds enough less =
       let before : count * room + room < length rest = rw suc-mul at (less (omega arith)) in
       let total : length rest ≤ suc count * room + room = rw suc-mul at enough in
       let stay = stays state k rest room holds (omega arith) in
-      stay .counts (same room (suc count)) ∙ one-then count room (stay .next) k (drop room rest) (stay .holds) (omega (arith, length-drop room rest)) (λ some. omega (arith, length-drop room rest))
+      stay .counts (sameCalls file room (suc count)) ∙ one-then count room (stay .next) k (drop room rest) (stay .holds) (omega (arith, length-drop room rest)) (λ some. omega (arith, length-drop room rest))
 
   no-calls : (state : StreamPlayer) → completed (answers state []) ≡ 0
   unfolding completed answers
   no-calls state = refl
 
   -- "with n ≥ 1 records, W writes take W/n calls rounded up, at least one"
-  pub rounds : (calls : List Call) → AllAdmissible file (started file) calls → begunNoFurther (answers (started file) calls) ≡ true → (room : ℕ) → 0 < room → let writes =
-      length (vsync s (completed (answers (started file) calls))) in (completed (answers (reached (started file) calls) (same room (callsFor writes room))) ≡ 1)
-      × ((count : ℕ) → count < callsFor writes room → completed (answers (reached (started file) calls) (same room count)) ≡ 0)
+  rounds : (calls : List Call) → AllAdmissible file (started file) calls → begunNoFurther (answers (started file) calls) ≡ true → (room : ℕ) → 0 < room → let writes =
+      length (vsync s (completed (answers (started file) calls))) in (completed (answers (reached (started file) calls) (sameCalls file room (callsFor writes room))) ≡ 1)
+      × ((count : ℕ) → count < callsFor writes room → completed (answers (reached (started file) calls) (sameCalls file room count)) ≡ 0)
   rounds calls admissible rests room some =
       let count : ℕ = completed (answers (started file) calls) in
       let state : StreamPlayer = reached (started file) calls in
-      let holds : Holds file s state count (vsync s count) = reached-rests calls admissible rests .holds in
+      let holds : Holds file s state count (vsync s count) = reached-rests calls admissible rests in
       let rounded = rounded-up (length (vsync s count)) room some in
       (rw (rounded .is) (one-then (rounded .before) room state count (vsync s count) holds (rounded .enough) (λ positive. rounded .less (rounded .before) positive (omega (arith, rounded .is)))), fewer state count holds rounded)
     where
       fewer : (state : StreamPlayer) (k : ℕ) → Holds file s state k (vsync s k) → Rounded (length (vsync s k)) room (callsFor (length (vsync s k)) room) → (count : ℕ)
-          → count < callsFor (length (vsync s k)) room → completed (answers state (same room count)) ≡ 0
+          → count < callsFor (length (vsync s k)) room → completed (answers state (sameCalls file room count)) ≡ 0
       fewer state k holds rounded zero less = no-calls state
       fewer state k holds rounded (suc count) less = none-yet (suc count) room state k (vsync s k) holds (rounded .less (suc count) (omega arith) less)
+
+-- THE PROMISES
+
+pub each-vsync : EachVsync
+each-vsync = records-are
+
+pub own-file-plays : OwnFilePlays
+own-file-plays = never-refused
+
+pub calls-of-vsync : CallsOfVsync
+calls-of-vsync = rounds

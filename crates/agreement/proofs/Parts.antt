@@ -14,15 +14,15 @@ use Rattle.format.specs.declared.operation.WriteRecord.{WriteRecord}
 use Rattle.format.specs.Bytes.{be}
 use Rattle.format.specs.Checked.{Checked, ok, _>>=_}
 use Rattle.format.specs.Header.{headerOf}
-use Rattle.format.specs.Listener.{wavesBefore}
-use Rattle.format.specs.Player.{wavesByAll, Played, placed, operationsLeft, openingBegun, frameStart, frameBegun, frameEnded, closingAt, playFrame, playOpening, playClosing}
+use Rattle.format.specs.Player.{Played, placed, operationsLeft, openingBegun, frameStart, frameBegun, frameEnded, closingAt, playFrame, playOpening, playClosing}
 use Rattle.format.specs.State.{playerOf}
 use Rattle.format.specs.Stream.{Stream, openingLimit}
-use Rattle.format.specs.Writes.{openingWrites, frameWrites, closing, vsync}
+use Rattle.format.specs.Writes.{writesOfAll, openingWrites, frameWrites, closing, vsync, vsyncOperations}
 use Rattle.format.proofs.Accepted.{Accepted}
-use Rattle.agreement.proofs.Gather.{At, Took, gather, at-start, at-end, done-is, onward-to, take-past, drop-past}
+use Rattle.agreement.proofs.Course.{wavesBefore, Course, courseOf, Along, along-later, along-whole}
+use Rattle.agreement.proofs.Gather.{Took, gather, at-start, at-end, done-is, onward-to, take-past, drop-past}
 use Rattle.agreement.proofs.Phases.{Inside, Ahead, InOpening, InFrame, InClosing, Phase, at-opening, at-frame, at-between, at-closing, at-over}
-use Rattle.agreement.proofs.Phases.{frames-count, frames-onward, Begins, begins, first-ahead, waves-first, waves-still, vsync-over}
+use Rattle.agreement.proofs.Phases.{frames-count, frames-onward, Begins, begins, first-ahead, first-along, first-whole, waves-still, vsync-over}
 
 -- what playing on gives where `rest` remains of vsync k
 pub record Plays (file : List ℕ) (s : Stream) (k : ℕ) (rest : List WriteRecord) (room : ℕ) (answer : Checked Played) : Type 0 where
@@ -30,7 +30,6 @@ pub record Plays (file : List ℕ) (s : Stream) (k : ℕ) (rest : List WriteReco
   pub is : answer ≡ ok (record { records = take room rest; complete = leb (length rest) room; next = playerOf file s next })
   pub inside : Inside file next
   pub phase : Phase file s next (cond (leb (length rest) room) (suc k) k) (cond (leb (length rest) room) (vsync s (suc k)) (drop room rest))
-  pub sources : leb (length rest) room ≡ true → next .«wave_sources» ≡ wavesBefore file s (suc k)
 
 pub played-is : {a b : List WriteRecord} {c d : Bool} (next : StreamPlayer) → a ≡ b → c ≡ d
     → _≡_ {A = Checked Played} (ok (record { records = a; complete = c; next = next })) (ok (record { records = b; complete = d; next = next }))
@@ -49,19 +48,16 @@ leb-shift a b room h = go (leb b (room - a)) refl
 module _ (file : List ℕ) (s : Stream) (acc : Accepted file (headerOf file) s) where
   -- after the frame's writes were taken: the frame is done, or goes on
   frame-settles : (q p : Progress) (k : ℕ) (rest : List WriteRecord) (room : ℕ) (inFrame : InFrame file s p k rest) → Inside file p
-      → (took : Took file s q (length file) (inFrame .end) (inFrame .left) room p rest (wavesBefore file s (suc k))) (done : Bool) → leb (length rest) room ≡ done
+      → (took : Took file s q (length file) (inFrame .end) (inFrame .left) room p rest (courseOf file s k [])) (done : Bool) → leb (length rest) room ≡ done
       → Inside file (cond done (frameEnded (placed p (took .cursor) (took .index) (took .writes) (took .waves))) (placed p (took .cursor) (took .index) (took .writes) (took .waves)))
       × Phase file s (cond done (frameEnded (placed p (took .cursor) (took .index) (took .writes) (took .waves))) (placed p (took .cursor) (took .index) (took .writes) (took .waves)))
       (cond done (suc k) k) (cond done (vsync s (suc k)) (drop room rest))
-      × (done ≡ true → cond done (frameEnded (placed p (took .cursor) (took .index) (took .writes) (took .waves))) (placed p (took .cursor) (took .index) (took .writes) (took .waves)) .«wave_sources» ≡ wavesBefore file s (suc k))
   frame-settles q p k rest room inFrame inside took true e =
       let within = frames-onward file s (inFrame .more) (inFrame .end) _ (length file) (inFrame .ahead .later) in
-      let none : took .left′ ≡ 0 = eqb-true _ _ (done-is file s (length file) (inFrame .end) (took .left′) (took .cursor) (took .writes) room rest (took .waves) (wavesBefore file s (suc k)) (took .at) ∙ e) in
-      let ended : (took .cursor ≡ inFrame .end) × (took .waves ≡ wavesBefore file s (suc k)) =
-      at-end file s (length file) (inFrame .end) (took .cursor) (took .writes) (drop room rest) (took .waves) (wavesBefore file s (suc k)) (rw none at (took .at)) in (
+      let none : took .left′ ≡ 0 = eqb-true _ _ (done-is file s (length file) (inFrame .end) (took .left′) (took .cursor) (took .writes) room rest (took .waves) (courseOf file s k []) (took .at) ∙ e) in
+      let ended = at-end file s (length file) (inFrame .end) (took .cursor) (took .writes) (drop room rest) (took .waves) (courseOf file s k []) (rw none at (took .at)) in (
         record { cursor = omega (arith, ended .0); frames = inside .frames; operations = omega arith },
-        at-between (record { part = refl; going = refl; initialized = refl; more = inFrame .more; begun = inFrame .begun; ahead = rw (ended .0) (inFrame .ahead); sources = ended .1; is = refl }),
-        λ e. ended .1,
+        at-between (record { part = refl; going = refl; initialized = refl; more = inFrame .more; begun = inFrame .begun; ahead = rw (ended .0) (inFrame .ahead); sources = along-whole file s k (took .writes) (took .waves) (ended .1); is = refl }),
       )
   frame-settles q p k rest room inFrame inside took false e =
       let within = frames-onward file s (inFrame .more) (inFrame .end) _ (length file) (inFrame .ahead .later) in
@@ -74,42 +70,42 @@ module _ (file : List ℕ) (s : Stream) (acc : Accepted file (headerOf file) s) 
           end = inFrame .end;
           more = inFrame .more;
           at = took .at;
+          whole = inFrame .whole;
           counted = took .counted ∙ inFrame .counted;
           begun = inFrame .begun;
           ahead = inFrame .ahead;
         }),
-        λ e. absurd (false≢true e),
       )
 
   pub frame-plays : (q p : Progress) (k : ℕ) (rest : List WriteRecord) (room : ℕ) → InFrame file s p k rest → Inside file p → Plays file s k rest room (playFrame (playerOf file s q) file room p)
   unfolding playFrame playerOf
   frame-plays q p k rest room inFrame inside =
-      let took = gather file s acc q (length file) (inFrame .end) (inFrame .left) room p rest (wavesBefore file s (suc k)) (inFrame .at) in
+      let took = gather file s acc q (length file) (inFrame .end) (inFrame .left) room p rest (courseOf file s k []) (inFrame .at) in
       let left : operationsLeft p ≡ inFrame .left = omega (arith, inFrame .counted) in
       let left′ : p .«operation_count» - took .index ≡ took .left′ = omega (arith, took .counted, inFrame .counted) in
       let done : eqb (p .«operation_count» - took .index) 0 ≡ leb (length rest) room =
-      ap (λ (n : ℕ). eqb n 0) left′ ∙ done-is file s (length file) (inFrame .end) (took .left′) (took .cursor) (took .writes) room rest (took .waves) (wavesBefore file s (suc k)) (took .at) in
+      ap (λ (n : ℕ). eqb n 0) left′ ∙ done-is file s (length file) (inFrame .end) (took .left′) (took .cursor) (took .writes) room rest (took .waves) (courseOf file s k []) (took .at) in
       let settled = frame-settles q p k rest room inFrame inside took (leb (length rest) room) refl in
       record {
         next = cond (leb (length rest) room) (frameEnded (placed p (took .cursor) (took .index) (took .writes) (took .waves))) (placed p (took .cursor) (took .index) (took .writes) (took .waves));
         is = rw (left, took .is, done);
         inside = settled .0;
         phase = settled .1;
-        sources = settled .2;
       }
 
   -- a frame that begins
   begun-frame : (k frame more cursor : ℕ) → Begins file s k frame more cursor → (p : Progress)
-      → wavesByAll file (headerOf file .«directory_offset») (getD (s .frames) frame []) (p .«wave_sources») ≡ wavesBefore file s (suc k)
+      → Along file s (courseOf file s k []) 0 (getD (s .frames) frame []) (p .«wave_sources») → vsync s k ≡ writesOfAll (s .pools) (vsyncOperations s k)
       → InFrame file s (frameStart file cursor frame p) k (frameWrites s frame) × Inside file (frameStart file cursor frame p)
-  begun-frame k frame more cursor begun p sources = (
+  begun-frame k frame more cursor begun p along whole = (
     record {
       part = refl;
       going = refl;
       left = be 2 file cursor;
       end = begun .next;
       more = more;
-      at = subst (At file s (length file) (begun .next) (be 2 file cursor) (cursor + 2) 0 (frameWrites s frame) (p .«wave_sources»)) sources (begun .at (p .«wave_sources»));
+      at = begun .at (p .«wave_sources») (courseOf file s k []) along;
+      whole = whole;
       counted = omega arith;
       begun = omega arith;
       ahead = begun .ahead;
@@ -118,11 +114,11 @@ module _ (file : List ℕ) (s : Stream) (acc : Accepted file (headerOf file) s) 
   )
 
   pub begin-plays : (q p : Progress) (k frame more cursor room : ℕ) → Ahead file s k frame (suc more) cursor
-      → wavesByAll file (headerOf file .«directory_offset») (getD (s .frames) frame []) (p .«wave_sources») ≡ wavesBefore file s (suc k)
+      → Along file s (courseOf file s k []) 0 (getD (s .frames) frame []) (p .«wave_sources») → vsync s k ≡ writesOfAll (s .pools) (vsyncOperations s k)
       → Plays file s k (frameWrites s frame) room (frameBegun file cursor frame p >>= playFrame (playerOf file s q) file room)
-  begin-plays q p k frame more cursor room ahead sources =
+  begin-plays q p k frame more cursor room ahead along whole =
       let begun = begins file s acc k frame more cursor ahead in
-      let now = begun-frame k frame more cursor begun p sources in
+      let now = begun-frame k frame more cursor begun p along whole in
       rw (begun .counts p) (frame-plays q (frameStart file cursor frame p) k (frameWrites s frame) room (now .0) (now .1))
 
   -- THE OPENING
@@ -135,9 +131,12 @@ module _ (file : List ℕ) (s : Stream) (acc : Accepted file (headerOf file) s) 
       go zero h = absurd (omega arith)
       go (suc n) h = (n, refl)
 
+  abbrev firstCourse : Course
+  firstCourse = courseOf file s 0 (getD (s .frames) 0 [])
+
   -- the opening goes on: the room ended within it
   opening-stays : (q p : Progress) (k : ℕ) (rest : List WriteRecord) (room : ℕ) (inOpening : InOpening file s p k rest) → Inside file p
-      → (took : Took file s q (openingLimit (headerOf file) file) (headerOf file .«frame_start») (inOpening .left) room p (inOpening .pending) (inOpening .middle))
+      → (took : Took file s q (openingLimit (headerOf file) file) (headerOf file .«frame_start») (inOpening .left) room p (inOpening .pending) firstCourse)
       → leb (length (inOpening .pending)) room ≡ false → Plays file s k rest room (playOpening (playerOf file s q) file room p)
   unfolding playOpening playerOf
   opening-stays q p k rest room inOpening inside took e =
@@ -145,7 +144,7 @@ module _ (file : List ℕ) (s : Stream) (acc : Accepted file (headerOf file) s) 
       let left : operationsLeft p ≡ inOpening .left = omega (arith, inOpening .counted) in
       let left′ : p .«operation_count» - took .index ≡ took .left′ = omega (arith, took .counted, inOpening .counted) in
       let done : eqb (p .«operation_count» - took .index) 0 ≡ false =
-      ap (λ (n : ℕ). eqb n 0) left′ ∙ done-is file s _ _ (took .left′) (took .cursor) (took .writes) room pending (took .waves) (inOpening .middle) (took .at) ∙ e in
+      ap (λ (n : ℕ). eqb n 0) left′ ∙ done-is file s _ _ (took .left′) (took .cursor) (took .writes) room pending (took .waves) firstCourse (took .at) ∙ e in
       let long : room < length pending = leb-false _ _ e in
       let total : length rest ≡ length pending + length (frameWrites s 0) = ap length (inOpening .is) ∙ length-append pending (frameWrites s 0) in
       let unfinished : leb (length rest) room ≡ false = lt-leb (length rest) room (omega arith) in
@@ -161,18 +160,15 @@ module _ (file : List ℕ) (s : Stream) (acc : Accepted file (headerOf file) s) 
           going = inOpening .going;
           left = took .left′;
           pending = drop room pending;
-          middle = inOpening .middle;
           at = took .at;
-          sources = inOpening .sources;
           counted = took .counted ∙ inOpening .counted;
           first = inOpening .first;
           is = over;
         }));
-        sources = λ whole. absurd (false≢true (sym unfinished ∙ whole));
       }
 
   opening-ends : (q p : Progress) (k : ℕ) (rest : List WriteRecord) (room : ℕ) (inOpening : InOpening file s p k rest) → Inside file p
-      → (took : Took file s q (openingLimit (headerOf file) file) (headerOf file .«frame_start») (inOpening .left) room p (inOpening .pending) (inOpening .middle))
+      → (took : Took file s q (openingLimit (headerOf file) file) (headerOf file .«frame_start») (inOpening .left) room p (inOpening .pending) firstCourse)
       → leb (length (inOpening .pending)) room ≡ true → Plays file s k rest room (playOpening (playerOf file s q) file room p)
   unfolding playOpening playerOf
   opening-ends q p k rest room inOpening inside took e =
@@ -180,13 +176,13 @@ module _ (file : List ℕ) (s : Stream) (acc : Accepted file (headerOf file) s) 
       let left : operationsLeft p ≡ inOpening .left = omega (arith, inOpening .counted) in
       let left′ : p .«operation_count» - took .index ≡ took .left′ = omega (arith, took .counted, inOpening .counted) in
       let done : eqb (p .«operation_count» - took .index) 0 ≡ true =
-      ap (λ (n : ℕ). eqb n 0) left′ ∙ done-is file s _ _ (took .left′) (took .cursor) (took .writes) room pending (took .waves) (inOpening .middle) (took .at) ∙ e in
+      ap (λ (n : ℕ). eqb n 0) left′ ∙ done-is file s _ _ (took .left′) (took .cursor) (took .writes) room pending (took .waves) firstCourse (took .at) ∙ e in
       let enough : length pending ≤ room = leb-true _ _ e in
       let gathering : Progress = placed p (took .cursor) (took .index) (took .writes) (took .waves) in
       let begun = begins file s acc 0 0 (one-frame .0) (headerOf file .«frame_start») (subst (λ (n : ℕ). Ahead file s 0 0 n (headerOf file .«frame_start»)) (one-frame .1) (first-ahead file s acc)) in
-      let none : took .left′ ≡ 0 = eqb-true _ _ (done-is file s _ _ (took .left′) (took .cursor) (took .writes) room pending (took .waves) (inOpening .middle) (took .at) ∙ e) in
-      let ended : (took .cursor ≡ headerOf file .«frame_start») × (took .waves ≡ inOpening .middle) = at-end file s _ _ (took .cursor) (took .writes) (drop room pending) (took .waves) (inOpening .middle) (rw none at (took .at)) in
-      let now = begun-frame 0 0 (one-frame .0) (headerOf file .«frame_start») begun gathering (rw (ended .1) (inOpening .sources)) in
+      let none : took .left′ ≡ 0 = eqb-true _ _ (done-is file s _ _ (took .left′) (took .cursor) (took .writes) room pending (took .waves) firstCourse (took .at) ∙ e) in
+      let ended = at-end file s _ _ (took .cursor) (took .writes) (drop room pending) (took .waves) firstCourse (rw none at (took .at)) in
+      let now = begun-frame 0 0 (one-frame .0) (headerOf file .«frame_start») begun gathering (along-later file s 0 (getD (s .frames) 0 []) (took .writes) (took .waves) (ended .1)) (first-whole s) in
       let plays = frame-plays q (frameStart file (headerOf file .«frame_start») 0 gathering) 0 (frameWrites s 0) (room - length pending) (now .0) (now .1) in
       let total : length rest ≡ length pending + length (frameWrites s 0) = ap length (inOpening .is) ∙ length-append pending (frameWrites s 0) in
       let whole : leb (length (frameWrites s 0)) (room - length pending) ≡ leb (length rest) room = leb-shift (length pending) _ room enough ∙ ap (λ (n : ℕ). leb n room) (sym total) in
@@ -198,15 +194,14 @@ module _ (file : List ℕ) (s : Stream) (acc : Accepted file (headerOf file) s) 
         is = rw (left, took .is, done, begun .counts gathering, plays .is) (played-is _ taken whole);
         inside = plays .inside;
         phase = rw (← whole, inOpening .first, over) (plays .phase);
-        sources = λ e. rw (inOpening .first) (plays .sources (whole ∙ e));
       }
 
   pub opening-plays : (q p : Progress) (k : ℕ) (rest : List WriteRecord) (room : ℕ) → InOpening file s p k rest → Inside file p → Plays file s k rest room (playOpening (playerOf file s q) file room p)
   opening-plays q p k rest room inOpening inside =
       go (leb (length (inOpening .pending)) room) refl
     where
-      took : Took file s q (openingLimit (headerOf file) file) (headerOf file .«frame_start») (inOpening .left) room p (inOpening .pending) (inOpening .middle)
-      took = gather file s acc q (openingLimit (headerOf file) file) (headerOf file .«frame_start») (inOpening .left) room p (inOpening .pending) (inOpening .middle) (inOpening .at)
+      took : Took file s q (openingLimit (headerOf file) file) (headerOf file .«frame_start») (inOpening .left) room p (inOpening .pending) firstCourse
+      took = gather file s acc q (openingLimit (headerOf file) file) (headerOf file .«frame_start») (inOpening .left) room p (inOpening .pending) firstCourse (inOpening .at)
 
       go : (done : Bool) → leb (length (inOpening .pending)) room ≡ done → Plays file s k rest room (playOpening (playerOf file s q) file room p)
       go true e = opening-ends q p k rest room inOpening inside took e
@@ -220,9 +215,7 @@ module _ (file : List ℕ) (s : Stream) (acc : Accepted file (headerOf file) s) 
         going = refl;
         left = headerOf file .«initial_count»;
         pending = openingWrites s;
-        at = at-start file s acc _ (headerOf file .«frame_start») (headerOf file .«initial_count») (headerOf file .«initial_start») (s .opening) (acc .opening) (p .«wave_sources»);
-        middle = wavesByAll file (headerOf file .«directory_offset») (s .opening) (p .«wave_sources»);
-        sources = waves-first file s (p .«wave_sources») sources;
+        at = at-start file s acc _ (headerOf file .«frame_start») (headerOf file .«initial_count») (headerOf file .«initial_start») (s .opening) (acc .opening) (p .«wave_sources») firstCourse (first-along file s (p .«wave_sources») sources);
         counted = omega arith;
         first = refl;
         is = refl;
@@ -258,6 +251,5 @@ module _ (file : List ℕ) (s : Stream) (acc : Accepted file (headerOf file) s) 
         next = closingAt (p .«write_index» + length (take room (drop (p .«write_index») (closing s)))) (leb (length (drop (p .«write_index») (closing s))) room) p;
         is = rw (le-ltb (length (closing s)) (p .«write_index») (inClosing .within));
         inside = record { cursor = inside .cursor; frames = inside .frames; operations = omega arith };
-        sources = λ e. inClosing .sources ∙ sym (waves-still file s (inClosing .once) k (omega (arith, acc .some-frame, count, inClosing .last)) (omega (arith, inClosing .last)));
         phase = closing-settles p k room (inClosing .once) (inClosing .last) (inClosing .within) (inClosing .sources) (leb (length (drop (p .«write_index») (closing s))) room) refl;
       })

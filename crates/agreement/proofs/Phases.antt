@@ -1,8 +1,8 @@
 -- Where a player of an accepted file can be, and what then remains of its vsync.
 use Prim.Native.Nat.{ℕ, zero, suc, _+_, _*_, _%_, _≤_, _<_}
 use mathlib.Core.Bool.{Bool, true, false, cond, true≢false}
-use mathlib.Core.List.{List, [], _∷_, _++_, nil≢cons, head-eq-of-cons-eq, tail-eq-of-cons-eq}
-use mathlib.Core.Path.{_≡_, refl, sym, ap, ap₂, subst, _∙_}
+use mathlib.Core.List.{List, [], _∷_, _++_, append-nil, nil≢cons, head-eq-of-cons-eq, tail-eq-of-cons-eq}
+use mathlib.Core.Path.{_≡_, refl, sym, ap, subst, _∙_}
 use native.Mathlib.Nat.{suc-mul, zero-mul, mul-add-mod-self-right, mod-eq-of-lt, le-of-eq}
 use native.Mathlib.Numerals.{add-one}
 use native.Mathlib.Omega.{arith}
@@ -18,8 +18,7 @@ use Rattle.format.specs.declared.operation.WriteRecord.{WriteRecord}
 use Rattle.format.specs.Bytes.{be}
 use Rattle.format.specs.Checked.{ok}
 use Rattle.format.specs.Header.{headerOf}
-use Rattle.format.specs.Listener.{wavesBefore}
-use Rattle.format.specs.Player.{wavesBy, wavesByAll, frameStart, frameBegun, belongs}
+use Rattle.format.specs.Player.{frameStart, frameBegun, belongs}
 use Rattle.format.specs.State.{partOf, unplayed, tableOf, playerOf}
 use Rattle.format.specs.Stream.{Stream, operationsFrom, framesFrom, openingLimit}
 use Rattle.format.specs.Writes.{writesOfAll, frameWrites, closing, vsync, vsyncOperations}
@@ -27,6 +26,8 @@ use Rattle.format.proofs.Accepted.{Accepted, HeaderOk}
 use Rattle.format.proofs.Cards.{cards-count}
 use Rattle.format.proofs.Checks.{ok-is}
 use Rattle.format.proofs.Steps.{frame-step}
+use Rattle.format.proofs.Writes.{writes-append}
+use Rattle.agreement.proofs.Course.{wavesByAll, wavesBefore, Course, courseOf, Along, along-first}
 use Rattle.agreement.proofs.Gather.{own, At, at-start, onward-to}
 
 -- WHAT HOLDS OF A STATE
@@ -50,9 +51,7 @@ pub record InOpening (file : List ℕ) (s : Stream) (p : Progress) (k : ℕ) (re
   pub going : p .finished ≡ false
   pub left : ℕ
   pub pending : List WriteRecord
-  pub middle : List WaveSource
-  pub at : At file s (openingLimit (headerOf file) file) (headerOf file .«frame_start») left (p .cursor) (p .«write_index») pending (p .«wave_sources») middle
-  pub sources : wavesByAll file (headerOf file .«directory_offset») (getD (s .frames) 0 []) middle ≡ wavesBefore file s 1
+  pub at : At file s (openingLimit (headerOf file) file) (headerOf file .«frame_start») left (p .cursor) (p .«write_index») pending (p .«wave_sources») (courseOf file s 0 (getD (s .frames) 0 []))
   pub counted : p .«operation_index» + left ≡ p .«operation_count»
   pub first : k ≡ 0
   pub is : rest ≡ pending ++ frameWrites s 0
@@ -63,7 +62,8 @@ pub record InFrame (file : List ℕ) (s : Stream) (p : Progress) (k : ℕ) (rest
   pub left : ℕ
   pub end : ℕ
   pub more : ℕ
-  pub at : At file s (length file) end left (p .cursor) (p .«write_index») rest (p .«wave_sources») (wavesBefore file s (suc k))
+  pub at : At file s (length file) end left (p .cursor) (p .«write_index») rest (p .«wave_sources») (courseOf file s k [])
+  pub whole : vsync s k ≡ writesOfAll (s .pools) (vsyncOperations s k)
   pub counted : p .«operation_index» + left ≡ p .«operation_count»
   pub begun : 0 < p .«frame_index»
   pub ahead : Ahead file s (suc k) (p .«frame_index») more end
@@ -122,6 +122,7 @@ belongs-own file s acc header p inside =
       eq-eqb _ _ (acc .size),
       header .low,
       le-ltb _ _ (header .high),
+      le-ltb _ _ (header .cards),
       le-ltb _ _ count,
       le-ltb _ _ (inside .cursor),
       le-ltb _ _ opening,
@@ -179,7 +180,7 @@ pub record Begins (file : List ℕ) (s : Stream) (k frame more cursor : ℕ) : T
   pub next : ℕ
   pub counts : (p : Progress) → frameBegun file cursor frame p ≡ ok (frameStart file cursor frame p)
   pub within : cursor + 2 ≤ length file
-  pub at : (waves : List WaveSource) → At file s (length file) next (be 2 file cursor) (cursor + 2) 0 (frameWrites s frame) waves (wavesByAll file (headerOf file .«directory_offset») (getD (s .frames) frame []) waves)
+  pub at : (waves : List WaveSource) (course : Course) → Along file s course 0 (getD (s .frames) frame []) waves → At file s (length file) next (be 2 file cursor) (cursor + 2) 0 (frameWrites s frame) waves course
   pub ahead : Ahead file s (suc k) (frame + 1) more next
 
 pub begins : (file : List ℕ) (s : Stream) → Accepted file (headerOf file) s → (k frame more cursor : ℕ) → Ahead file s k frame (suc more) cursor → Begins file s k frame more cursor
@@ -192,9 +193,9 @@ begins file s acc k frame more cursor ahead =
       next = start .next;
       counts = λ p. rw (le-ltb _ _ (start .counts));
       within = start .counts;
-      at = λ waves. subst (λ (operations : List Operation). At file s (length file) (start .next) (be 2 file cursor) (cursor + 2) 0 (writesOfAll (s .pools) operations) waves
-          (wavesByAll file (headerOf file .«directory_offset») operations waves))
-          (sym (dropped .0)) (at-start file s acc (length file) (start .next) (be 2 file cursor) (cursor + 2) (start .operations) (start .here) waves);
+      at = λ waves course along. subst (λ (operations : List Operation). At file s (length file) (start .next) (be 2 file cursor) (cursor + 2) 0 (writesOfAll (s .pools) operations) waves course)
+          (sym (dropped .0)) (at-start file s acc (length file) (start .next) (be 2 file cursor) (cursor + 2) (start .operations) (start .here) waves course
+          (subst (λ (operations : List Operation). Along file s course 0 operations waves) (dropped .0) along));
       ahead = record {
         passes = ahead .passes;
         once = ahead .once;
@@ -241,31 +242,40 @@ pub vsync-frame : (file : List ℕ) (s : Stream) → Accepted file (headerOf fil
 unfolding vsync
 vsync-frame file s acc k frame more cursor ahead = frame-turn file s acc k frame more cursor ahead (frameWrites s) _
 
--- and the wave sources behind it
-pub waves-frame : (file : List ℕ) (s : Stream) → Accepted file (headerOf file) s → (k frame more cursor : ℕ) → Ahead file s (suc k) frame (suc more) cursor
-    → (waves : List WaveSource) → waves ≡ wavesBefore file s (suc k)
-    → wavesByAll file (headerOf file .«directory_offset») (getD (s .frames) frame []) waves ≡ wavesBefore file s (suc (suc k))
-unfolding wavesBefore vsyncOperations
-waves-frame file s acc k frame more cursor ahead waves e =
-    let operations = frame-turn file s acc k frame more cursor ahead (λ (n : ℕ). getD (s .frames) n []) [] in
-    ap₂ (wavesByAll file (headerOf file .«directory_offset»)) (sym operations) e
+-- its operations
+frame-operations : (file : List ℕ) (s : Stream) → Accepted file (headerOf file) s → (k frame more cursor : ℕ) → Ahead file s (suc k) frame (suc more) cursor → vsyncOperations s (suc k) ≡ getD (s .frames) frame []
+unfolding vsyncOperations
+frame-operations file s acc k frame more cursor ahead = frame-turn file s acc k frame more cursor ahead (λ (n : ℕ). getD (s .frames) n []) []
 
-waves-append : (file : List ℕ) (directory : ℕ) (a b : List Operation) (waves : List WaveSource) → wavesByAll file directory b (wavesByAll file directory a waves) ≡ wavesByAll file directory (a ++ b) waves
-unfolding wavesByAll
-waves-append file directory [] b waves = refl
-waves-append file directory (operation ∷ a) b waves = waves-append file directory a b (wavesBy file directory operation waves)
+-- they begin with the wave sources before it, and their writes are the vsync's
+pub frame-along : (file : List ℕ) (s : Stream) → Accepted file (headerOf file) s → (k frame more cursor : ℕ) → Ahead file s (suc k) frame (suc more) cursor
+    → (waves : List WaveSource) → waves ≡ wavesBefore file s (suc k) → Along file s (courseOf file s (suc k) []) 0 (getD (s .frames) frame []) waves
+frame-along file s acc k frame more cursor ahead waves e =
+    along-first file s (courseOf file s (suc k) []) (getD (s .frames) frame []) waves (frame-operations file s acc k frame more cursor ahead ∙ sym (append-nil (getD (s .frames) frame []))) e
 
-pub waves-first : (file : List ℕ) (s : Stream) (waves : List WaveSource) → waves ≡ wavesBefore file s 0
-    → wavesByAll file (headerOf file .«directory_offset») (getD (s .frames) 0 []) (wavesByAll file (headerOf file .«directory_offset») (s .opening) waves) ≡ wavesBefore file s 1
-unfolding wavesBefore vsyncOperations
-waves-first file s waves e =
-    waves-append file (headerOf file .«directory_offset») (s .opening) (getD (s .frames) 0 []) waves ∙ ap (wavesByAll file (headerOf file .«directory_offset») (s .opening ++ getD (s .frames) 0 [])) e
+pub frame-whole : (file : List ℕ) (s : Stream) → Accepted file (headerOf file) s → (k frame more cursor : ℕ) → Ahead file s (suc k) frame (suc more) cursor
+    → vsync s (suc k) ≡ writesOfAll (s .pools) (vsyncOperations s (suc k))
+frame-whole file s acc k frame more cursor ahead =
+    vsync-frame file s acc k frame more cursor ahead ∙ ap (writesOfAll (s .pools)) (sym (frame-operations file s acc k frame more cursor ahead))
 
--- after the last frame of a stream that does not repeat they stay
+-- the first vsync: the opening and frame 1
+pub first-along : (file : List ℕ) (s : Stream) (waves : List WaveSource) → waves ≡ wavesBefore file s 0 → Along file s (courseOf file s 0 (getD (s .frames) 0 [])) 0 (s .opening) waves
+unfolding vsyncOperations
+first-along file s waves e = along-first file s (courseOf file s 0 (getD (s .frames) 0 [])) (s .opening) waves refl e
+
+pub first-whole : (s : Stream) → vsync s 0 ≡ writesOfAll (s .pools) (vsyncOperations s 0)
+unfolding vsync vsyncOperations
+first-whole s = sym (writes-append (s .pools) (s .opening) (getD (s .frames) 0 []))
+
+-- after the last frame of a stream that does not repeat there are none, and the wave sources stay
+pub no-operations : (s : Stream) → s .repeat ≡ false → (k : ℕ) → 0 < k → length (s .frames) ≤ k → vsyncOperations s k ≡ []
+unfolding vsyncOperations
+no-operations s once zero some after = absurd (omega arith)
+no-operations s once (suc k) some after = rw (once, le-ltb (suc k) (length (s .frames)) after)
+
 pub waves-still : (file : List ℕ) (s : Stream) → s .repeat ≡ false → (k : ℕ) → 0 < k → length (s .frames) ≤ k → wavesBefore file s (suc k) ≡ wavesBefore file s k
-unfolding wavesBefore vsyncOperations wavesByAll
-waves-still file s once zero some after = absurd (omega arith)
-waves-still file s once (suc k) some after = rw (once, le-ltb (suc k) (length (s .frames)) after)
+unfolding wavesBefore wavesByAll
+waves-still file s once k some after = rw (no-operations s once k some after)
 
 -- and the one after the last frame of a stream that does not repeat
 pub vsync-closing : (file : List ℕ) (s : Stream) → Accepted file (headerOf file) s → s .repeat ≡ false → (k : ℕ) → suc k ≡ length (s .frames) → vsync s (suc k) ≡ closing s

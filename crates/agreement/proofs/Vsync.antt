@@ -16,7 +16,6 @@ use Rattle.format.specs.declared.player.StreamPlayer.{StreamPlayer}
 use Rattle.format.specs.declared.operation.WriteRecord.{WriteRecord}
 use Rattle.format.specs.Checked.{Checked, ok, _>>=_, _>>_}
 use Rattle.format.specs.Header.{headerOf}
-use Rattle.format.specs.Listener.{wavesBefore}
 use Rattle.format.specs.Next.{frameNext, openingNext, closingNext, nextPart, byNext}
 use Rattle.format.specs.Player.{Played, openingBegun, frameBegun, closingAt, playFrame, playOpening, playClosing, play, belongs, as25, call}
 use Rattle.format.specs.State.{partOf, unplayed, playerOf, startedAs, started}
@@ -25,8 +24,9 @@ use Rattle.format.specs.Writes.{closing, vsync}
 use Rattle.format.proofs.Accepted.{Accepted, HeaderOk, accepted, header-ok}
 use Rattle.format.proofs.Checks.{ok-is}
 use Rattle.agreement.proofs.Heard.{Goes}
+use Rattle.agreement.proofs.Course.{wavesBefore}
 use Rattle.agreement.proofs.Phases.{Inside, Ahead, Over, Phase, at-start-of-all, at-opening, at-frame, at-between, at-closing, at-over, Holds, belongs-own}
-use Rattle.agreement.proofs.Phases.{again-ahead, vsync-frame, waves-frame, waves-still, vsync-closing, vsync-over}
+use Rattle.agreement.proofs.Phases.{again-ahead, vsync-frame, frame-along, frame-whole, waves-still, vsync-closing, vsync-over}
 use Rattle.agreement.proofs.Parts.{Plays, played-is, frame-plays, begin-plays, opening-plays, first-plays, closing-plays, count, one-frame}
 
 module _ (file : List ℕ) (s : Stream) (acc : Accepted file (headerOf file) s) where
@@ -68,7 +68,8 @@ module _ (file : List ℕ) (s : Stream) (acc : Accepted file (headerOf file) s) 
   after-last p k room ahead inside sources true e =
       let start = subst (λ (n : ℕ). Ahead file s (suc k) 0 n (headerOf file .«frame_start»)) (one-frame file s acc .1) (again-ahead file s acc (acc .repeat ∙ e) (suc k) (p .«frame_index») (p .cursor) ahead) in
       rw (vsync-frame file s acc k 0 (one-frame file s acc .0) (headerOf file .«frame_start») start)
-      (begin-plays file s acc p p (suc k) 0 (one-frame file s acc .0) (headerOf file .«frame_start») room start (waves-frame file s acc k 0 (one-frame file s acc .0) (headerOf file .«frame_start») start (p .«wave_sources») sources))
+      (begin-plays file s acc p p (suc k) 0 (one-frame file s acc .0) (headerOf file .«frame_start») room start (frame-along file s acc k 0 (one-frame file s acc .0) (headerOf file .«frame_start») start (p .«wave_sources») sources)
+      (frame-whole file s acc k 0 (one-frame file s acc .0) (headerOf file .«frame_start») start))
   after-last p k room ahead inside sources false e =
       let once : s .repeat ≡ false = acc .repeat ∙ e in
       let turn : suc k ≡ 0 * headerOf file .«frame_count» + p .«frame_index» = ahead .vsyncs ∙ ap (λ (m : ℕ). m * headerOf file .«frame_count» + p .«frame_index») (ahead .once once) in
@@ -90,7 +91,8 @@ module _ (file : List ℕ) (s : Stream) (acc : Accepted file (headerOf file) s) 
       let less : p .«frame_index» < headerOf file .«frame_count» = omega (arith, ahead .counted) in
       let begin = opened p room initialized ∙ ap (λ (b : Bool). cond b (nextFrame p room) (cond (headerOf file .repeat) (firstFrame p room) (closes p room))) (lt-ltb _ _ less) in
       rw (begin, vsync-frame file s acc k (p .«frame_index») more (p .cursor) ahead)
-      (begin-plays file s acc p p (suc k) (p .«frame_index») more (p .cursor) room ahead (waves-frame file s acc k (p .«frame_index») more (p .cursor) ahead (p .«wave_sources») sources))
+      (begin-plays file s acc p p (suc k) (p .«frame_index») more (p .cursor) room ahead (frame-along file s acc k (p .«frame_index») more (p .cursor) ahead (p .«wave_sources») sources)
+      (frame-whole file s acc k (p .«frame_index») more (p .cursor) ahead))
   between-plays p (suc k) room zero initialized begun ahead inside sources =
       let none : headerOf file .«frame_count» ≤ p .«frame_index» = omega (arith, ahead .counted) in
       let begin = opened p room initialized ∙ ap (λ (b : Bool). cond b (nextFrame p room) (cond (headerOf file .repeat) (firstFrame p room) (closes p room))) (le-ltb _ _ none) in
@@ -141,44 +143,29 @@ module _ (file : List ℕ) (s : Stream) (acc : Accepted file (headerOf file) s) 
   call-going p room h =
       ap (λ (b : Bool). cond b (ok (record { records = []; complete = true; next = playerOf file s p })) (as25 (belongs (playerOf file s p) file >> play (playerOf file s p) file room p (partOf (p .part))))) h
 
-  -- what a call gives, and the wave sources that a complete one leaves
-  record Called (p : Progress) (k : ℕ) (rest : List WriteRecord) (room : ℕ) : Type 0 where
-    pub goes : Goes s (Holds file s) k rest room (call (playerOf file s p) file room)
-    pub next : Progress
-    pub is : goes .next ≡ playerOf file s next
-    pub sources : leb (length rest) room ≡ true → next .«wave_sources» ≡ wavesBefore file s (suc k)
+  abbrev Called : Progress → ℕ → List WriteRecord → ℕ → Type 0
+  Called p k rest room = Goes s (Holds file s) k rest room (call (playerOf file s p) file room)
 
   over-goes : (p : Progress) (k : ℕ) (rest : List WriteRecord) (room : ℕ) → Inside file p → Over file s p k rest → Called p k rest room
   over-goes p k rest room inside over =
       let still : wavesBefore file s (suc k) ≡ wavesBefore file s k = waves-still file s (over .once) k (omega (arith, over .last)) (omega (arith, over .last)) in
-      let sources : p .«wave_sources» ≡ wavesBefore file s (suc k) = over .sources ∙ sym still in
       subst (λ (r : List WriteRecord). Called p k r room) (sym (over .is)) (record {
-        goes = record {
-          next = playerOf file s p;
-          is = call-finished p room (over .over) ∙ played-is _ (sym (take-nil room)) (sym (leb·zero room));
-          holds = rw (leb·zero room) (record {
-            progress = p;
-            is = refl;
-            inside = inside;
-            phase = at-over (record { over = over .over; once = over .once; last = omega (arith, over .last); sources = sources; is = vsync-over s (over .once) k (omega (arith, over .last)) });
-          });
-        };
-        next = p;
-        is = refl;
-        sources = λ e. sources;
+        next = playerOf file s p;
+        is = call-finished p room (over .over) ∙ played-is _ (sym (take-nil room)) (sym (leb·zero room));
+        holds = rw (leb·zero room) (record {
+          progress = p;
+          is = refl;
+          inside = inside;
+          phase = at-over (record { over = over .over; once = over .once; last = omega (arith, over .last); sources = over .sources ∙ sym still; is = vsync-over s (over .once) k (omega (arith, over .last)) });
+        });
       })
 
   going-goes : (p : Progress) (k : ℕ) (rest : List WriteRecord) (room : ℕ) → HeaderOk (headerOf file) → Inside file p → p .finished ≡ false → PlaysAs p k rest room (partOf (p .part)) → Called p k rest room
   going-goes p k rest room header inside going plays =
       record {
-        goes = record {
-          next = playerOf file s (plays .next);
-          is = call-going p room going ∙ rw (belongs-own file s acc header p inside, plays .is);
-          holds = record { progress = plays .next; is = refl; inside = plays .inside; phase = plays .phase };
-        };
-        next = plays .next;
-        is = refl;
-        sources = plays .sources;
+        next = playerOf file s (plays .next);
+        is = call-going p room going ∙ rw (belongs-own file s acc header p inside, plays .is);
+        holds = record { progress = plays .next; is = refl; inside = plays .inside; phase = plays .phase };
       }
 
   called : (p : Progress) (k : ℕ) (rest : List WriteRecord) (room : ℕ) → HeaderOk (headerOf file) → Inside file p → Phase file s p k rest → Called p k rest room
@@ -193,7 +180,7 @@ module _ (file : List ℕ) (s : Stream) (acc : Accepted file (headerOf file) s) 
 pub one-lemma : (file : List ℕ) (s : Stream) → read file ≡ ok s → (state : StreamPlayer) (k : ℕ) (rest : List WriteRecord) → Holds file s state k rest → (room : ℕ) → Goes s (Holds file s) k rest room (call state file room)
 one-lemma file s e state k rest holds room =
     let both = accepted file s e in
-    subst (λ (st : StreamPlayer). Goes s (Holds file s) k rest room (call st file room)) (sym (holds .is)) (called file s (both .0) (holds .progress) k rest room (header-ok file (both .1)) (holds .inside) (holds .phase) .goes)
+    subst (λ (st : StreamPlayer). Goes s (Holds file s) k rest room (call st file room)) (sym (holds .is)) (called file s (both .0) (holds .progress) k rest room (header-ok file (both .1)) (holds .inside) (holds .phase))
 
 -- a start holds
 pub start-holds : (file : List ℕ) (s : Stream) → read file ≡ ok s → Holds file s (started file) 0 (vsync s 0)
@@ -201,24 +188,3 @@ unfolding startedAs unplayed
 start-holds file s e =
     let both = accepted file s e in
     record { progress = unplayed false (headerOf file .«frame_start»); is = rw e; inside = record { cursor = both .0 .first-within; frames = omega arith; operations = omega arith }; phase = at-start-of-all refl refl refl }
-
--- a complete call leaves the wave sources of the vsyncs that are completed
-complete-next : (file : List ℕ) (s : Stream) (acc : Accepted file (headerOf file) s) → HeaderOk (headerOf file) → (p : Progress) (k : ℕ) (rest : List WriteRecord) → Inside file p
-    → Phase file s p k rest → (room : ℕ) (answer : Played) → call (playerOf file s p) file room ≡ ok answer → answer .complete ≡ true
-    → answer .next .progress .«wave_sources» ≡ wavesBefore file s (suc k)
-unfolding playerOf
-complete-next file s acc header p k rest inside phase room answer e complete =
-    let found = called file s acc p k rest room header inside phase in
-    let same = ok-is (sym e ∙ found .goes .is) in
-    let whole : leb (length rest) room ≡ true = sym (ap (λ (a : Played). a .complete) same) ∙ complete in
-    ap (λ (a : Played). a .next .progress .«wave_sources») same ∙ ap (λ (st : StreamPlayer). st .progress .«wave_sources») (found .is) ∙ found .sources whole
-
-pub complete-sources : (file : List ℕ) (s : Stream) → read file ≡ ok s → (state : StreamPlayer) (k : ℕ) (rest : List WriteRecord) → Holds file s state k rest
-    → (room : ℕ) (answer : Played) → call state file room ≡ ok answer → answer .complete ≡ true → answer .next .progress .«wave_sources» ≡ wavesBefore file s (suc k)
-complete-sources file s accepts state k rest holds room answer e complete =
-    let both = accepted file s accepts in
-    complete-next file s (both .0) (header-ok file (both .1)) (holds .progress) k rest (holds .inside) (holds .phase) room answer (subst (λ (st : StreamPlayer). call st file room ≡ ok answer) (holds .is) e) complete
-
-pub start-sources : (file : List ℕ) (s : Stream) → read file ≡ ok s → started file .progress .«wave_sources» ≡ wavesBefore file s 0
-unfolding startedAs playerOf unplayed wavesBefore
-start-sources file s e = rw e

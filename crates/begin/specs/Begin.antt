@@ -11,7 +11,7 @@ use Rattle.format.specs.declared.player.Part.the-variants.{Between, Opening, Fr
 use Rattle.format.specs.declared.player.StreamPlayer.{StreamPlayer}
 use Rattle.format.specs.Bytes.{be}
 use Rattle.format.specs.Next.{nextPart, byNext}
-use Rattle.format.specs.Pace.{closingCount}
+use Rattle.format.specs.Writes.{closingCount}
 use Rattle.format.specs.Player.{operationsLeft}
 use Rattle.segments.specs.declared.place.Place.{Place}
 

@@ -13,7 +13,7 @@ use segments::Place;
 use state::part_of;
 ghost use mathlib.Core.Path.{_≡_};
 ghost use Prim.Native.Nat.{_-_, _<_};
-ghost use Rattle.format.specs.Pace.{closingCount};
+ghost use Rattle.format.specs.Writes.{closingCount};
 ghost use Rattle.format.specs.State.{partOf};
 ghost use Rattle.begin.specs.Begin.{nowhere, closingFrom, framePlace, frameAt, openingPlace, betweenPlace, partPlace, firstPlace};
 

@@ -35,7 +35,7 @@ module _ (size : ℕ) (header : Header) (cards : ℕ) (p : Progress) (own : fore
   unfolding foreignTo
   none-past =
       let recorded = or-false (not (eqb size (header .«total_size»))) _ own .1 in
-      let places = or-false (eqb (header .version) 0 || ltb 4 (header .version) || ltb 8 cards) _ recorded .1 in
+      let places = or-false (eqb (header .version) 0 || ltb 4 (header .version) || ltb 8 (header .«card_count») || ltb 8 cards) _ recorded .1 in
       or-false (before || ltb size (header .«frame_start») || ltb size (header .«directory_offset»)) _ places
 
   -- has no more operations done than there are

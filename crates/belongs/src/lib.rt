@@ -1,4 +1,4 @@
-// Whether a state belongs to a file: its recorded size, version and card count, its places and its counters (25).
+// Whether a state belongs to a file: its recorded size, version and card counts, its places and its counters (25).
 use format::Header;
 use format::Progress;
 ghost use mathlib.Core.Path.{_≡_};
@@ -6,14 +6,17 @@ ghost use mathlib.Core.Bool.{_||_};
 ghost use lib.Dec.{eqb, ltb};
 ghost use Rattle.belongs.specs.Foreign.{foreignTo};
 
-// Whether the version or the card count is none of a file's.
-fn recorded_wrong(version: u8, cards: usize) -> bool
-    ensures { λ r. ⌜ r ≡ (eqb version 0 || ltb 4 version || ltb 8 cards) ⌝ }
+// Whether the version or a card count, the header's or the table's, is none of a file's.
+fn recorded_wrong(version: u8, card_count: u8, cards: usize) -> bool
+    ensures { λ r. ⌜ r ≡ (eqb version 0 || ltb 4 version || ltb 8 «card_count» || ltb 8 cards) ⌝ }
 {
     if version == 0 {
         return true;
     }
     if 4 < version {
+        return true;
+    }
+    if 8 < card_count {
         return true;
     }
     8 < cards
@@ -52,7 +55,7 @@ pub fn foreign(length: usize, header: Header, cards: usize, progress: Progress) 
     if length != header.total_size as usize {
         return true;
     }
-    if recorded_wrong(header.version, cards) {
+    if recorded_wrong(header.version, header.card_count, cards) {
         return true;
     }
     if place_past(

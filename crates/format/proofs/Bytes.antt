@@ -9,11 +9,7 @@ use native.Mathlib.Omega.{arith}
 use lib.Dec.{lit<}
 use lib.ListN.{length, drop, length-append, List·getD-eq-default}
 use lib.Seq.{getD-take, getD-drop, getD-at, drop-drop, drop-append-seam, take-append-seam}
-use Rattle.format.specs.Bytes.{byte, be, bytesOf, part}
-
--- every element is a byte, as a slice's rule gives it
-abbrev pub AllBytes : List ℕ → Type 0
-AllBytes file = (i : ℕ) → byte file i < 256
+use Rattle.format.specs.Bytes.{byte, AllBytes, be, bytesOf, part}
 
 -- one byte more
 pub be-next : (width : ℕ) (file : List ℕ) (place : ℕ) → be (width + 1) file place ≡ be width file place * 256 + byte file (place + width)

@@ -7,8 +7,11 @@ use native.Mathlib.Nat.{zero-add}
 use native.Mathlib.Numerals.{add-one}
 use native.Mathlib.Omega.{arith}
 use lib.ListN.{length, getD, set, take, drop}
-use lib.Seq.{paste, paste-suc, length-paste, take-length}
+use lib.Seq.{paste, paste-suc, length-paste, take-length, take-at}
+use Rattle.format.specs.Checked.{Checked}
 use Rattle.format.specs.Lent.{stored}
+use Rattle.format.specs.Player.{Played, runAfter}
+use Rattle.format.specs.Promises.{Reports}
 
 -- one more, from a place on
 pub paste-more : {A : Type 0} (old : List A) (at : ℕ) (new : List A) (j : ℕ) (x : A) → at + j < length old → j < length new → getD new j x ≡ x
@@ -38,3 +41,13 @@ module _ {A : Type 0} (new old : List A) (fits : length new ≤ length old) wher
   -- the list keeps its length
   pub stored-long : length (stored new old) ≡ length old
   stored-long = ap length (sym (pasted-all (length new) refl)) ∙ pasted-long (length new) (omega arith)
+
+-- WHAT A CALL REPORTS
+
+-- so many elements from the front are those that were stored
+pub stored-front : {A : Type 0} (new old : List A) → take (length new) (stored new old) ≡ new
+stored-front new old = take-at new (drop (length new) old) (length new) refl
+
+pub reports : Reports
+reports state file run answer e =
+    ap (λ (told : Checked Played). take (length (answer .records)) (runAfter run told)) e ∙ stored-front (answer .records) run

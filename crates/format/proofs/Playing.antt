@@ -3,6 +3,7 @@ use Prim.Native.Nat.{ℕ, _+_}
 use mathlib.Core.Bool.{Bool, true, false}
 use mathlib.Core.Path.{_≡_, refl}
 use mathlib.Core.List.{List, [], _∷_, _++_, map}
+use mathlib.Core.Option.{none, some}
 use lib.ListN.{length, set, replicate}
 use Rattle.format.specs.declared.card.CardRequirement.{CardRequirement}
 use Rattle.format.specs.declared.operation.Operation.the-variants.{Write, Fill, Copy}
@@ -106,7 +107,7 @@ unfolding said broken unnamed four reading writing listing playing
 broken-four = refl
 
 -- the wave source of core 1, channel 3 after the COPY's first write, and not before
-waves-four : map (λ (rooms : List ℕ). waveSource (reached (started (written four)) (calls (written four) rooms)) 1 3 .copied) ((4 ∷ []) ∷ (4 ∷ 1 ∷ []) ∷ []) ≡ false ∷ true ∷ []
+waves-four : map (λ (rooms : List ℕ). waveSource (reached (started (written four)) (calls (written four) rooms)) 1 3) ((4 ∷ []) ∷ (4 ∷ 1 ∷ []) ∷ []) ≡ none ∷ some 0 ∷ []
 unfolding waveSource reached calls four reading writing listing playing
 waves-four = refl
 

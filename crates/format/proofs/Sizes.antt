@@ -8,7 +8,7 @@ use native.Mathlib.Omega.{arith}
 use borrow.Author.Tests.{eqb-true, leb-true}
 use lib.Dec.{eqb, leb, lit≤}
 use lib.ListN.{getD}
-use Rattle.format.specs.Operation.{sizes, sizeOf, addressWidth}
+use Rattle.format.specs.Operation.{sizes, extras, sizeOf, addressWidth}
 use Rattle.format.proofs.Checks.{and-true}
 
 -- a test at every number below a bound
@@ -26,10 +26,6 @@ each (suc bound) test e (suc n) h =
 -- the table as two rows
 abbrev pub rows : List (List ℕ)
 rows = (6 ∷ 10 ∷ 15 ∷ []) ∷ (7 ∷ 11 ∷ 16 ∷ []) ∷ []
-
--- what an operation has besides its address
-abbrev pub extras : List ℕ
-extras = 3 ∷ 7 ∷ 12 ∷ []
 
 -- the table's rule: an entry is the width of its row and what its opcode has besides
 abbrev right : (row opcode : ℕ) → Bool

@@ -1,6 +1,6 @@
 -- "Numbers in files are unsigned, highest byte first; uN has N bits." A width counts bytes, so that 3- and 4-byte addresses are one
 -- definition.
-use Prim.Native.Nat.{ℕ, zero, suc, _+_, _*_, _/_, _%_}
+use Prim.Native.Nat.{ℕ, zero, suc, _+_, _*_, _/_, _%_, _<_}
 use mathlib.Core.Bool.{Bool, true, false, _&&_}
 use mathlib.Core.List.{List, [], _∷_, _++_}
 use lib.ListN.{getD, take, drop}
@@ -9,6 +9,10 @@ use lib.Dec.{eqb}
 -- the byte at a place; 0 past the file's end, where a check in front has refused
 abbrev pub byte : List ℕ → ℕ → ℕ
 byte file place = getD file place 0
+
+-- every element is a byte, as a lent file's are
+abbrev pub AllBytes : List ℕ → Type 0
+AllBytes file = (i : ℕ) → byte file i < 256
 
 -- the number in as many bytes from a place as its width says
 unfoldable pub be : (width : ℕ) → List ℕ → (place : ℕ) → ℕ

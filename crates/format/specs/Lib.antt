@@ -18,7 +18,7 @@ pub mod Compare
 pub mod State
 pub mod Next
 pub mod Player
-pub mod Pace
 pub mod Listener
-pub mod Agreement
+pub mod WaveSources
+pub mod Promises
 pub mod Examples

@@ -5,15 +5,12 @@ use mathlib.Core.List.{List, [], _∷_, _++_}
 use mathlib.Core.Path.{_≡_}
 use lib.ListN.{replicate}
 use Rattle.format.specs.declared.player.StreamPlayer.{StreamPlayer}
-use Rattle.format.specs.declared.player.WaveSource.{WaveSource}
 use Rattle.format.specs.declared.operation.WriteRecord.{WriteRecord}
 use Rattle.format.specs.Checked.{Checked, ok, refused}
 use Rattle.format.specs.Compare.{coreWrites, played}
-use Rattle.format.specs.Header.{headerOf}
-use Rattle.format.specs.State.{noWave}
-use Rattle.format.specs.Player.{wavesByAll, Played, call}
+use Rattle.format.specs.Player.{Played, call}
 use Rattle.format.specs.Stream.{Stream}
-use Rattle.format.specs.Writes.{vsync, vsyncOperations}
+use Rattle.format.specs.Writes.{vsync}
 use Rattle.format.specs.Size.{pcmSize}
 
 -- CALLS
@@ -32,6 +29,10 @@ after state (refused number place) = state
 unfoldable pub answers : StreamPlayer → List Call → List (Checked Played)
 answers state [] = []
 answers state (c ∷ calls) = call state (c .file) (c .room) ∷ answers (after state (call state (c .file) (c .room))) calls
+
+-- so many calls with one file and one room
+abbrev pub sameCalls : List ℕ → (room count : ℕ) → List Call
+sameCalls file room count = replicate count (record { file = file; room = room })
 
 -- the state after them
 unfoldable pub reached : StreamPlayer → List Call → StreamPlayer
@@ -75,6 +76,15 @@ recordsFrom current (ok answer ∷ more) =
 abbrev pub vsyncRecords : List (Checked Played) → List (List WriteRecord)
 vsyncRecords = recordsFrom []
 
+-- and the records of the vsync that is begun and not completed
+unfoldable pub underWayFrom : (current : List WriteRecord) → List (Checked Played) → List WriteRecord
+underWayFrom current [] = current
+underWayFrom current (refused number place ∷ more) = underWayFrom current more
+underWayFrom current (ok answer ∷ more) = cond (answer .complete) (underWayFrom [] more) (underWayFrom (current ++ answer .records) more)
+
+abbrev pub underWay : List (Checked Played) → List WriteRecord
+underWay = underWayFrom []
+
 -- "with n ≥ 1 records, W writes take W/n calls rounded up, at least one"
 unfoldable pub callsFor : (writes room : ℕ) → ℕ
 callsFor writes room = max 1 ((writes + (room - 1)) / room)
@@ -83,11 +93,6 @@ callsFor writes room = max 1 ((writes + (room - 1)) / room)
 unfoldable pub vsyncsFrom : Stream → (k count : ℕ) → List (List WriteRecord)
 vsyncsFrom s k zero = []
 vsyncsFrom s k (suc count) = vsync s k ∷ vsyncsFrom s (suc k) count
-
--- the wave sources when vsync k comes: "the pool last copied by a kind 1 COPY to that core and address div 256"
-unfoldable pub wavesBefore : List ℕ → Stream → (k : ℕ) → List WaveSource
-wavesBefore file s zero = replicate 16 noWave
-wavesBefore file s (suc k) = wavesByAll file (headerOf file .«directory_offset») (vsyncOperations s k) (wavesBefore file s k)
 
 -- THE LISTENER
 

@@ -43,6 +43,10 @@ addressWidth version = cond (leb version 2) 3 4
 abbrev pub sizes : List ℕ
 sizes = 6 ∷ 10 ∷ 15 ∷ 7 ∷ 11 ∷ 16 ∷ []
 
+-- what an operation has besides its address
+abbrev pub extras : List ℕ
+extras = 3 ∷ 7 ∷ 12 ∷ []
+
 unfoldable pub sizeOf : (width opcode : ℕ) → ℕ
 sizeOf width opcode = getD sizes ((width - 3) * 3 + opcode) 0
 

@@ -75,11 +75,6 @@ wavesBy file directory (Fill target address size value) waves = waves
 wavesBy file directory (Copy target address id source size) waves =
     cond (eqb (poolAt file directory id .kind) 1) (set waves (target * 8 + address / 256) (record { copied = true; pool = id })) waves
 
--- and once operations are done, one after the other
-unfoldable pub wavesByAll : List ℕ → (directory : ℕ) → List Operation → List WaveSource → List WaveSource
-wavesByAll file directory [] waves = waves
-wavesByAll file directory (operation ∷ more) waves = wavesByAll file directory more (wavesBy file directory operation waves)
-
 -- the progress at a cursor, with so many operations done, and so many writes of the operation at the cursor
 abbrev pub placed : Progress → (cursor operations writes : ℕ) → List WaveSource → Progress
 placed p cursor operations writes waves = progressAt (onwardTo (positionOf p) cursor operations writes) (p .initialized) (p .finished) waves
@@ -176,7 +171,7 @@ belongs state file = do
   let header = state .header
   let p = state .progress
   refuse 25 0 (not (eqb (length file) (header .«total_size»)))
-  refuse 25 0 (eqb (header .version) 0 || ltb 4 (header .version) || ltb 8 (state .cards .count))
+  refuse 25 0 (eqb (header .version) 0 || ltb 4 (header .version) || ltb 8 (header .«card_count») || ltb 8 (state .cards .count))
   refuse 25 0 (ltb (length file) (p .cursor) || ltb (length file) (header .«initial_start») || ltb (length file) (header .«frame_start») || ltb (length file) (header .«directory_offset»))
   refuse 25 0 (ltb (header .«frame_count») (p .«frame_index») || ltb (p .«operation_count») (p .«operation_index»))
 

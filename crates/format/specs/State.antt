@@ -2,6 +2,7 @@
 use Prim.Native.Nat.{ℕ, _+_, _*_, _-_}
 use mathlib.Core.Bool.{Bool, true, false, cond, _&&_}
 use mathlib.Core.List.{List, [], _++_}
+use mathlib.Core.Option.{Option, none, some}
 use lib.ListN.{length, getD, replicate}
 use lib.Dec.{eqb, ltb}
 use Rattle.format.specs.declared.card.CardRequirement.{CardRequirement}
@@ -180,7 +181,11 @@ started file = startedAs file (read file)
 abbrev pub moved : StreamPlayer → Progress → StreamPlayer
 moved state progress = record { header = state .header; cards = state .cards; «uses_si22» = state .«uses_si22»; progress = progress }
 
--- "the pool last copied by a kind 1 COPY to that core and address div 256; outside 2 × 8, none"
-unfoldable pub waveSource : StreamPlayer → (core channel : ℕ) → WaveSource
+-- what stands for a channel in a state: the pool that was last copied to it, or none
+abbrev pub poolIn : WaveSource → Option ℕ
+poolIn source = cond (source .copied) (some (source .pool)) none
+
+-- `wave_source`, by the state alone. "Outside 2 × 8, none"; which pool it is, WaveSources says
+unfoldable pub waveSource : StreamPlayer → (core channel : ℕ) → Option ℕ
 waveSource state core channel =
-    cond (ltb core 2 && ltb channel 8) (getD (state .progress .«wave_sources») (core * 8 + channel) noWave) noWave
+    cond (ltb core 2 && ltb channel 8) (poolIn (getD (state .progress .«wave_sources») (core * 8 + channel) noWave)) none

@@ -73,6 +73,10 @@ silence core (suc count) channel =
 unfoldable pub closingWrites : (synth : Bool) → List WriteRecord
 closingWrites synth = cond synth (write 11 0x0C 0 ∷ []) [] ++ silence 0 8 0 ++ silence 1 8 0
 
+-- how many they are: one more with target 11
+abbrev pub closingCount : (synth : Bool) → ℕ
+closingCount synth = cond synth 33 32
+
 unfoldable pub closing : Stream → List WriteRecord
 closing s = closingWrites (usesSi22 s)
 

@@ -6,7 +6,7 @@ use format::Progress;
 ghost use mathlib.Core.Path.{_≡_};
 ghost use Prim.Native.Nat.{_+_, _-_, _^_, _<_};
 ghost use Rattle.format.specs.Next.{nextPart, frameNext};
-ghost use Rattle.format.specs.Pace.{closingCount};
+ghost use Rattle.format.specs.Writes.{closingCount};
 ghost use Rattle.format.specs.Stream.{openingLimit};
 
 // The frame whose count stands at a place.

@@ -8,7 +8,7 @@ use Rattle.format.specs.declared.player.Progress.{Progress}
 use Rattle.format.specs.declared.player.StreamPlayer.{StreamPlayer}
 use Rattle.format.specs.Checked.{Checked, ok, refused, refuse, _>>=_, _>>_}
 use Rattle.format.specs.Operation.{Item}
-use Rattle.format.specs.Pace.{countOf, paced}
+use Rattle.play_laws.specs.Pace.{countOf, paced}
 use Rattle.format.specs.Player.{itemUsed, placed, as25}
 use Rattle.play_laws.proofs.Paced.{paced-step}
 use Rattle.pace.specs.Told.{wavesNow, Start, started}

@@ -10,7 +10,7 @@ use Rattle.format.specs.declared.player.StreamPlayer.{StreamPlayer}
 use Rattle.format.specs.declared.player.WaveSource.{WaveSource}
 use Rattle.format.specs.Checked.{Checked, ok, refused, refuse, _>>=_, _>>_}
 use Rattle.format.specs.Operation.{Item}
-use Rattle.format.specs.Pace.{countOf}
+use Rattle.play_laws.specs.Pace.{countOf}
 use Rattle.format.specs.Player.{wavesBy}
 use Rattle.used.specs.Used.{itemUsedBy}
 use Rattle.pace.specs.declared.item.Started.{Started}

@@ -6,7 +6,7 @@ use next_part::operations_left;
 use state::placed;
 ghost use mathlib.Core.Path.{_≡_};
 ghost use Prim.Native.Nat.{_≤_};
-ghost use Rattle.format.specs.Pace.{paced};
+ghost use Rattle.play_laws.specs.Pace.{paced};
 ghost use Rattle.format.specs.Player.{operationsLeft, as25};
 ghost use Rattle.pace.specs.Told.{paceOf};
 

@@ -3,7 +3,7 @@ use format::Operation;
 use format::WaveSource;
 use pools::read_pool;
 ghost use mathlib.Core.Path.{_≡_};
-ghost use Rattle.format.specs.Pace.{countOf};
+ghost use Rattle.play_laws.specs.Pace.{countOf};
 ghost use Rattle.format.specs.Player.{wavesBy};
 ghost use Rattle.pace.specs.Told.{wavesWith, wavesNow};
 

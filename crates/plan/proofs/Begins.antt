@@ -11,7 +11,7 @@ use Rattle.format.specs.declared.player.Part.the-variants.{Between, Opening, Fr
 use Rattle.format.specs.declared.player.Progress.{Progress}
 use Rattle.format.specs.declared.player.StreamPlayer.{StreamPlayer}
 use Rattle.format.specs.Checked.{refuse, _>>_}
-use Rattle.format.specs.Pace.{planFrame, planOpening, planClosing, plan, planned}
+use Rattle.play_laws.specs.Pace.{planFrame, planOpening, planClosing, plan, planned}
 use Rattle.format.specs.Next.{nextPart}
 use Rattle.format.specs.Player.{openingBegun, closingAt, belongs}
 use Rattle.format.specs.State.{partNumber, partOf}

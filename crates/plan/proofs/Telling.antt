@@ -8,7 +8,7 @@ use lib.ListN.{length}
 use Rattle.format.specs.declared.player.Progress.{Progress}
 use Rattle.format.specs.declared.player.StreamPlayer.{StreamPlayer}
 use Rattle.format.specs.Checked.{Checked, ok, refused, refuse, _>>=_, _>>_}
-use Rattle.format.specs.Pace.{Plan, paced, planFrame, planClosing}
+use Rattle.play_laws.specs.Pace.{Plan, paced, planFrame, planClosing}
 use Rattle.format.specs.Player.{frameBegun, frameEnded, operationsLeft, as25}
 use Rattle.format.specs.State.{moved}
 use Rattle.pace.specs.declared.operations.Paced.{Paced}
@@ -28,7 +28,7 @@ told-bind state (refused number place) rest = refl
 -- an answer with so many writes in front
 abbrev later : (count : ℕ) → CallPlan → CallPlan
 later count answer =
-    cond (eqb (answer .number) 0) (record { number = 0; count = count + answer .count; complete = answer .complete; next = answer .next }) answer
+    cond (eqb (answer .number) 0) (record { number = 0; place = 0; count = count + answer .count; complete = answer .complete; next = answer .next }) answer
 
 later-told : (state : StreamPlayer) (count : ℕ) (t : Taken) (b : Bool) → t .refused ≡ b → takenTold state (behind count t) ≡ later count (takenTold state t)
 later-told state count t true e = rw e
@@ -37,7 +37,7 @@ later-told state count t false e = rw e
 -- a frame, with no operation left or some
 frame-done : (state : StreamPlayer) (count : ℕ) (p : Progress) (no done : Bool)
     → takenTold state (cond done (record { refused = no; count = count; complete = true; progress = frameEnded p }) (record { refused = no; count = count; complete = false; progress = p }))
-    ≡ cond no (noPlan state) (record { number = 0; count = count; complete = done; next = moved state (cond done (frameEnded p) p) })
+    ≡ cond no (noPlan state) (record { number = 0; place = 0; count = count; complete = done; next = moved state (cond done (frameEnded p) p) })
 frame-done state count p true true = refl
 frame-done state count p true false = refl
 frame-done state count p false true = refl
@@ -53,6 +53,7 @@ told-frame state file room p r e =
     go : (no : Bool)
         → cond no (noPlan state) (record {
           number = 0;
+          place = 0;
           count = room - r .room;
           complete = eqb (operationsLeft (r .progress)) 0;
           next = moved state (cond (eqb (operationsLeft (r .progress)) 0) (frameEnded (r .progress)) (r .progress));

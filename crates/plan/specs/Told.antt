@@ -6,9 +6,12 @@ use lib.Dec.{eqb, leb, ltb}
 use Rattle.format.specs.declared.player.Part.the-variants.{Between}
 use Rattle.format.specs.declared.player.Progress.{Progress}
 use Rattle.format.specs.declared.player.StreamPlayer.{StreamPlayer}
+use Rattle.format.specs.declared.rule.Rule.the-variants.{OtherFile}
 use Rattle.format.specs.Checked.{Checked, ok, refused, _>>=_}
-use Rattle.format.specs.Pace.{Plan, planFrame, closingCount, plan}
+use Rattle.play_laws.specs.Pace.{Plan, planFrame, plan}
+use Rattle.format.specs.Writes.{closingCount}
 use Rattle.format.specs.Player.{frameBegun, frameEnded, closingAt, operationsLeft}
+use Rattle.format.specs.Rule.{numberOf}
 use Rattle.format.specs.State.{moved}
 use Rattle.pace.specs.declared.operations.Paced.{Paced}
 use Rattle.plan.specs.declared.call.CallPlan.{CallPlan}
@@ -16,13 +19,13 @@ use Rattle.plan.specs.declared.taken.Taken.{Taken}
 
 -- THE ANSWER OF A CALL
 
--- refusal 25: no write is taken, and the state stays
+-- 25 at place 0: no write is taken, and the state stays
 abbrev pub noPlan : StreamPlayer → CallPlan
-noPlan state = record { number = 25; count = 0; complete = false; next = state }
+noPlan state = record { number = numberOf OtherFile; place = 0; count = 0; complete = false; next = state }
 
 -- the answer to a plan of a state's call
 abbrev pub planTold : StreamPlayer → Checked Plan → CallPlan
-planTold state (ok plan) = record { number = 0; count = plan .count; complete = plan .complete; next = plan .next }
+planTold state (ok plan) = record { number = 0; place = 0; count = plan .count; complete = plan .complete; next = plan .next }
 planTold state (refused number place) = noPlan state
 
 -- WHAT IS TAKEN OF A PART
@@ -33,7 +36,7 @@ nothing p = record { refused = true; count = 0; complete = false; progress = p }
 -- the answer of a state to what was taken
 abbrev pub takenTold : StreamPlayer → Taken → CallPlan
 takenTold state t =
-    cond (t .refused) (noPlan state) (record { number = 0; count = t .count; complete = t .complete; next = moved state (t .progress) })
+    cond (t .refused) (noPlan state) (record { number = 0; place = 0; count = t .count; complete = t .complete; next = moved state (t .progress) })
 
 -- of so much room: all that is not left of it
 abbrev pub takenBy : (room : ℕ) → Paced → Taken

@@ -7,21 +7,24 @@ use crate::taken::Taken;
 use belongs::foreign;
 use format::Part;
 use format::Progress;
+use format::Rule;
 use format::StreamPlayer;
 use next_part::next_part;
+use numbers::number;
 use state::closing_at;
 use state::moved;
 use state::opening_begun;
 use state::part_of;
 ghost use mathlib.Core.Path.{_≡_};
-ghost use Rattle.format.specs.Pace.{plan, planned};
+ghost use Rattle.play_laws.specs.Pace.{plan, planned};
 ghost use Rattle.format.specs.State.{partOf};
 ghost use Rattle.plan.specs.Told.{noPlan, planTold, takenTold, planBetween};
 
-// A call's plan: refusal 25 or 0, how many writes it takes, whether the vsync is then complete, and the next state. A refused call
-// takes no write, and its state stays.
+// A call's plan: number and place of its refusal, or 0 and 0; how many writes it takes, whether the vsync is then complete, and the
+// next state. A refused call takes no write, and its state stays.
 pub struct CallPlan {
     pub number: u32,
+    pub place: u64,
     pub count: usize,
     pub complete: bool,
     pub next: StreamPlayer,
@@ -54,12 +57,13 @@ fn plan_part(file: &[u8], state: StreamPlayer, room: usize, progress: Progress) 
     }
 }
 
-// Refusal 25.
+// Player state and file do not belong together: 25, at place 0.
 fn refused_plan(state: StreamPlayer) -> CallPlan
     ensures { λ r. ⌜ r ≡ noPlan state ⌝ }
 {
     CallPlan {
-        number: 25,
+        number: number(Rule::OtherFile),
+        place: 0,
         count: 0,
         complete: false,
         next: state,
@@ -77,6 +81,7 @@ fn told(state: StreamPlayer, taken: Taken) -> CallPlan
     let next = moved(state, progress);
     CallPlan {
         number: 0,
+        place: 0,
         count: taken.count,
         complete: taken.complete,
         next: next,
@@ -91,6 +96,7 @@ pub fn plan_call(state: StreamPlayer, file: &[u8], room: usize) -> CallPlan
     if progress.finished {
         return CallPlan {
             number: 0,
+            place: 0,
             count: 0,
             complete: true,
             next: state,

@@ -13,7 +13,7 @@ use state::frame_begun;
 use state::frame_ended;
 ghost use mathlib.Core.Path.{_≡_};
 ghost use Prim.Native.Nat.{_+_, _^_, _≤_, _<_};
-ghost use Rattle.format.specs.Pace.{planFrame};
+ghost use Rattle.play_laws.specs.Pace.{planFrame};
 ghost use Rattle.plan.specs.Told.{planTold, takenTold, ended, planBegun};
 
 // The vsync is complete where no operation of its frame is left.

@@ -9,7 +9,7 @@ use next_part::opening_limit;
 use next_part::operations_left;
 use pace::pace;
 ghost use mathlib.Core.Path.{_≡_};
-ghost use Rattle.format.specs.Pace.{planOpening};
+ghost use Rattle.play_laws.specs.Pace.{planOpening};
 ghost use Rattle.plan.specs.Told.{planTold, takenTold};
 
 pub fn plan_opening(file: &[u8], state: StreamPlayer, room: usize, progress: Progress) -> Taken

@@ -8,7 +8,8 @@ use Rattle.format.specs.State.{partOf}
 use Rattle.format.specs.declared.operation.WriteRecord.{WriteRecord}
 use Rattle.format.specs.declared.player.StreamPlayer.{StreamPlayer}
 use Rattle.format.specs.Checked.{Checked, ok, refused, mapped, _>>_}
-use Rattle.format.specs.Pace.{planOf, planned}
+use Rattle.format.specs.Listener.{after}
+use Rattle.play_laws.specs.Pace.{planOf, planned}
 use Rattle.format.specs.Player.{Played, play, belongs, as25, call, runAfter}
 use Rattle.format.proofs.Checks.{refused-not-ok}
 use Rattle.play_laws.proofs.Planned.{planned-is}
@@ -17,11 +18,11 @@ use Rattle.plan.specs.Told.{planTold}
 use Rattle.store.specs.Stored.{storedCall}
 use Rattle.store.proofs.Call.{stored-nothing, call-stored}
 use Rattle.planned_vsync.specs.declared.Vsync.{Vsync}
-use Rattle.planned_vsync.specs.Vsync.{vsyncOf, stateAfter}
+use Rattle.planned_vsync.specs.Vsync.{vsyncOf}
 
 -- what a plan tells
 abbrev pub toldOf : CallPlan → Vsync
-toldOf plan = record { number = plan .number; count = plan .count; complete = plan .complete }
+toldOf plan = record { number = plan .number; place = plan .place; count = plan .count; complete = plan .complete }
 
 -- whatever a call refuses is 25, at place 0
 pub refused-25 : (state : StreamPlayer) (file : List ℕ) (room number place : ℕ) → call state file room ≡ refused number place → (number ≡ 25) × (place ≡ 0)
@@ -52,12 +53,14 @@ module _ (state : StreamPlayer) (file : List ℕ) (run : List WriteRecord) where
     where
       go : (a : Checked Played) → call state file (length run) ≡ a → toldOf (planTold state (mapped planOf a)) ≡ vsyncOf a
       go (ok a) e = refl
-      go (refused number place) e = rw (refused-25 state file (length run) number place e .0)
+      go (refused number place) e =
+          let known = refused-25 state file (length run) number place e in
+          rw (known .0, known .1)
 
-  pub state-is : plan .next ≡ stateAfter state answer
+  pub state-is : plan .next ≡ after state answer
   state-is = ap (λ (p : CallPlan). p .next) plan-is ∙ go answer
     where
-      go : (a : Checked Played) → planTold state (mapped planOf a) .next ≡ stateAfter state a
+      go : (a : Checked Played) → planTold state (mapped planOf a) .next ≡ after state a
       go (ok a) = refl
       go (refused number place) = refl
 

@@ -6,10 +6,11 @@ use plan::plan_call;
 use store::store_call;
 ghost use Rattle.planned_vsync.specs.Vsync.{Advanced};
 
-// What a call tells: refusal 25 or 0, how many records it stored, and whether the vsync is complete.
+// What a call tells: number and place of its refusal, or 0 and 0; how many records it stored, and whether the vsync is complete.
 #[repr(C)]
 pub struct Vsync {
     pub number: u32,
+    pub place: u64,
     pub count: usize,
     pub complete: bool,
 }
@@ -24,6 +25,7 @@ pub fn planned_vsync(state: &mut StreamPlayer, file: &[u8], run: &mut [WriteReco
     *state = plan.next;
     Vsync {
         number: plan.number,
+        place: plan.place,
         count: plan.count,
         complete: plan.complete,
     }

@@ -15,7 +15,7 @@ use Rattle.targets.specs.declared.Target.the-variants.{Core, Pcm, Bank, Slot, S
 use Rattle.format.specs.Card.{oneCardWrong}
 use Rattle.format.specs.Checked.{ok}
 use Rattle.format.specs.Operation.{Setting, Item, writeRules, fillRules, allowed, itemAt}
-use Rattle.format.specs.Pace.{countOf, addressOf}
+use Rattle.play_laws.specs.Pace.{countOf, addressOf}
 use Rattle.format.specs.Player.{settingIn, slotWrong, cardUsed, poolsUsed, itemUsed}
 use Rattle.format.specs.Target.{slotOf, slotTarget, targetOf, missing, writeLimit, bulkStart, bulkLength}
 use Rattle.format.specs.Writes.{targetNumber}

@@ -19,7 +19,7 @@ use Rattle.format.specs.declared.operation.WriteRecord.{WriteRecord}
 use Rattle.format.specs.Bytes.{byte, part}
 use Rattle.format.specs.Checked.{Checked, ok, refused, refuse, mapped, _>>=_, _>>_}
 use Rattle.format.specs.Operation.{Setting, Item, copyRules, allowed, itemAt}
-use Rattle.format.specs.Pace.{countOf, writeAt, paced}
+use Rattle.play_laws.specs.Pace.{countOf, writeAt, paced}
 use Rattle.format.specs.Player.{settingIn, cardUsed, poolUsed, poolsUsed, itemUsed, bytesAt, wavesBy, placed, Gathered, gathered}
 use Rattle.format.specs.Pool.{poolAt}
 use Rattle.format.specs.Target.{slotTarget, slotOf, targetOf, outside, kindFor}
@@ -107,7 +107,7 @@ usable state file limit at item e =
       writes = operation-writes (settingIn state file) file (state .header .«directory_offset») (is .place) (a .value .operation) refl (is .fine) (c .0);
     })
 
--- a kind 1 COPY that is allowed goes to one of 2 × 8 wave places
+-- a kind 1 COPY that is allowed goes to one of 2 × 8 channels
 slot-kind : (cards : List CardRequirement) (slot : ℕ) → kindFor (slotTarget cards slot) ≡ 1 → ⊥
 unfolding slotTarget
 slot-kind [] slot e = omega arith
@@ -139,14 +139,19 @@ is-core : (version : ℕ) (cards : List CardRequirement) (target : ℕ) → targ
 unfolding targetOf
 is-core version cards target h = rw (lt-ltb target 2 h)
 
+pub wave-channel : (at version pools : ℕ) (cards : List CardRequirement) (target address id : ℕ) (pool : Pool) (source size : ℕ)
+    → copyRules at version pools (targetOf version cards target) address id pool source size ≡ ok tt → pool .kind ≡ 1 → (target < 2) × (address / 256 < 8)
+wave-channel at version pools cards target address id pool source size e wave =
+    let whose : Target = targetOf version cards target in
+    let rules = copy-allowed at version pools whose address id pool source size e in
+    let low : target < 2 = core-only version cards target (sym (rules .right-kind) ∙ wave) in
+    (low, core-within address size (subst (λ (t : Target). outside t address size ≡ false) (is-core version cards target low) (rules .inside)))
+
 pub wave-place : (at version pools : ℕ) (cards : List CardRequirement) (target address id : ℕ) (pool : Pool) (source size : ℕ)
     → copyRules at version pools (targetOf version cards target) address id pool source size ≡ ok tt → eqb (pool .kind) 1 ≡ true → target * 8 + address / 256 < 16
 wave-place at version pools cards target address id pool source size e wave =
-    let whose : Target = targetOf version cards target in
-    let rules = copy-allowed at version pools whose address id pool source size e in
-    let low : target < 2 = core-only version cards target (sym (rules .right-kind) ∙ eqb-true _ _ wave) in
-    let place : address / 256 < 8 = core-within address size (subst (λ (t : Target). outside t address size ≡ false) (is-core version cards target low) (rules .inside)) in
-    omega arith
+    let channel = wave-channel at version pools cards target address id pool source size e (eqb-true _ _ wave) in
+    omega (arith, channel .0, channel .1)
 
 -- ONE OPERATION OF A CALL
 

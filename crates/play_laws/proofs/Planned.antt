@@ -12,12 +12,12 @@ use Rattle.format.specs.declared.player.Progress.{Progress}
 use Rattle.format.specs.declared.player.StreamPlayer.{StreamPlayer}
 use Rattle.format.specs.declared.operation.WriteRecord.{WriteRecord}
 use Rattle.format.specs.Checked.{Checked, ok, refused, refuse, mapped, _>>=_, _>>_}
-use Rattle.format.specs.Pace.{Plan, planOf, planFrame, planOpening, closingCount, planClosing, plan, planned}
+use Rattle.play_laws.specs.Pace.{Plan, planOf, planFrame, planOpening, planClosing, plan, planned}
 use Rattle.format.specs.Next.{nextPart}
 use Rattle.format.specs.State.{partNumber, partOf, moved}
 use Rattle.format.specs.Player.{Gathered, gathered, Played, openingBegun, frameBegun, frameEnded, closingAt, operationsLeft, playFrame, playOpening, playClosing, play, belongs, as25, call, runAfter}
 use Rattle.format.specs.Stream.{openingLimit}
-use Rattle.format.specs.Writes.{silence, closingWrites}
+use Rattle.format.specs.Writes.{silence, closingWrites, closingCount}
 use Rattle.format.proofs.Checks.{refused-not-ok, through, passed-test, passed-check, ok-is}
 use Rattle.play_laws.proofs.Paced.{paced-is, room-taken}
 

@@ -7,7 +7,7 @@ use native.Mathlib.Nat.{zero-add}
 use native.Mathlib.Omega.{arith}
 use borrow.Author.Tests.{le-ltb}
 use lib.Dec.{eqb}
-use lib.ListN.{length, length-take, length-drop, length-replicate}
+use lib.ListN.{length, getD, length-take, length-drop, length-replicate}
 use Rattle.format.specs.declared.card.CardRequirement.{CardRequirement}
 use Rattle.format.specs.declared.header.Header.{Header}
 use Rattle.format.specs.declared.operation.Operation.{Operation}
@@ -21,10 +21,10 @@ use Rattle.format.specs.Header.{headerSize, headerOf}
 use Rattle.format.specs.Operation.{Setting, Item, fillRules, allowed, operationAt, recordAt, itemAt}
 use Rattle.format.specs.State.{playerOf}
 use Rattle.format.specs.Player.{slotWrong, cardUsed, poolUsed, poolsUsed, itemUsed, bytesAt}
-use Rattle.format.specs.Pool.{poolAt}
+use Rattle.format.specs.Pool.{noPool, poolAt}
 use Rattle.format.specs.Stream.{Stream}
 use Rattle.format.specs.Target.{missing, slotOf}
-use Rattle.format.specs.Writes.{upward, payload, writesWith, writesOf, targetNumber}
+use Rattle.format.specs.Writes.{upward, writesWith, writesOf, targetNumber}
 use Rattle.format.proofs.Accepted.{Accepted, settingFor}
 use Rattle.format.proofs.Checks.{passed-test, passed-last, ok-is}
 use Rattle.format.proofs.Cards.{table-cards}
@@ -47,8 +47,6 @@ slots-fine file (suc count) at least cards e slot =
     go : (b : Bool) → {c t : Bool} → c ≡ false → t ≡ false → cond b c t ≡ false
     go true e h = e
     go false e h = h
-
--- POOLS
 
 -- OPERATIONS
 
@@ -92,7 +90,7 @@ pub record OperationIs (file : List ℕ) (header : Header) (s : Stream) (operati
   pub some : 0 < length (writesOf (s .pools) operation)
 
 module _ (file : List ℕ) (header : Header) (s : Stream) (acc : Accepted file header s) where
-  pool-is : (id : ℕ) → id < header .«pool_count» → PoolIs file (header .«directory_offset») id (payload (s .pools) id)
+  pub pool-is : (id : ℕ) → id < header .«pool_count» → PoolIs file (header .«directory_offset») id (getD (s .pools) id noPool)
   pool-is id h =
       let payloads = header .«directory_offset» + header .«pool_count» * 16 in
       rw zero-add at (pools-are (header .version) file (header .«directory_offset») (header .«pool_count») 0 payloads (s .pools, header .«initial_start») (acc .pools) id h)

@@ -20,6 +20,7 @@ fn busy_vsync(state: &mut StreamPlayer, file: &[u8], run: &mut [WriteRecord]) ->
         store_position(state, step.to);
         return Vsync {
             number: 0,
+            place: 0,
             count: step.count,
             complete: step.complete,
         };
@@ -43,6 +44,7 @@ pub fn advance_vsync(state: &mut StreamPlayer, file: &[u8], run: &mut [WriteReco
         store_position(state, step.to);
         return Vsync {
             number: 0,
+            place: 0,
             count: 0,
             complete: true,
         };

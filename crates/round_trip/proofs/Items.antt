@@ -14,7 +14,7 @@ use Rattle.format.specs.Bytes.{byte, be, bytesOfAll, u16}
 use Rattle.format.specs.Checked.{ok}
 use Rattle.format.specs.Limits.{Each, OperationFits, CardsFit, PoolFits, FrameFits}
 use Rattle.format.specs.Pool.{noPool, Payload}
-use Rattle.format.specs.Operation.{Setting, addressWidth, sizeOf, fieldsAt, writeRules, fillRules, copyRules, allowed, operationAt, recordAt, itemAt}
+use Rattle.format.specs.Operation.{extras, Setting, addressWidth, sizeOf, fieldsAt, writeRules, fillRules, copyRules, allowed, operationAt, recordAt, itemAt}
 use Rattle.format.specs.Stream.{operationsFrom, framesFrom}
 use Rattle.format.specs.Target.{targetOf, writeLimit}
 use Rattle.format.specs.Written.{operationFields, withoutFirst, itemBytes, operationsBytes, framesBytes}
@@ -25,7 +25,7 @@ use Rattle.round_trip.proofs.Places.{Holds, Fit, holds}
 use Rattle.format.proofs.Rules.{EntryFor, inside-passes, takes-passes}
 use Rattle.round_trip.proofs.Each.{each-at}
 use Rattle.round_trip.proofs.Widths.{addresses-below, narrow-below, addresses-fit, kind-long}
-use Rattle.format.proofs.Sizes.{extras, size-is, width-range}
+use Rattle.format.proofs.Sizes.{size-is, width-range}
 
 -- a setting goes by these pools, and by cards and pools that are within the limits
 pub record For (pools : List Payload) (setting : Setting) : Type 0 where

@@ -10,13 +10,12 @@ use lib.Dec.{eqb}
 use lib.ListN.{length, drop, replicate, length-drop}
 use lib.Seq.{length-take-le}
 use Rattle.format.specs.declared.card.CardRequirement.{CardRequirement}
-use Rattle.format.specs.Bytes.{byte, part, allZero, bytesOfAll}
+use Rattle.format.specs.Bytes.{AllBytes, byte, part, allZero, bytesOfAll}
 use Rattle.format.specs.Card.{cardAt, cardsFrom}
 use Rattle.format.specs.Checked.{ok}
 use Rattle.format.specs.Limits.{Each, CardFits, CardsFit, PoolFits}
 use Rattle.format.specs.Pool.{Payload, poolAt, poolsFrom}
 use Rattle.format.specs.Written.{cardFields, cardsBytes, entryFields, directoryBytes, payloadsBytes}
-use Rattle.format.proofs.Bytes.{AllBytes}
 use Rattle.format.proofs.Checks.{given, and-true}
 use Rattle.format.proofs.Steps.{CardFine, one-card-fine, card-step, pool-step}
 use Rattle.round_trip.proofs.Each.{part-bytes}

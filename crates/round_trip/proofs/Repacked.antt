@@ -10,11 +10,12 @@ use lib.Dec.{eqb, ltb, lit≤}
 use lib.ListN.{length, replicate, length-append, length-map}
 use Rattle.format.specs.declared.operation.Operation.{Operation}
 use Rattle.format.specs.declared.operation.WriteRecord.{WriteRecord}
-use Rattle.format.specs.Bytes.{sameBytes}
+use Rattle.format.specs.Bytes.{AllBytes, sameBytes}
 use Rattle.format.specs.Checked.{ok}
 use Rattle.format.specs.Compare.{sameWrites, coreWrites, played, imageOf, sameFrames, agree, compared, agreed}
 use Rattle.format.specs.Limits.{Each, OperationFits, PoolFits, FrameFits, Limits}
 use Rattle.format.specs.Pool.{Payload}
+use Rattle.format.specs.Promises.{RepackedPasses}
 use Rattle.format.specs.Repack.{value, toPcm, toCores, inOrder, pieces, wavesOf, pcmPools, wavePool, pcmFill, pcmCopy, repacked, repack}
 use Rattle.format.specs.Stream.{Stream, read}
 use Rattle.format.specs.Writes.{upward, writesOfAll, openingWrites}
@@ -22,7 +23,6 @@ use Rattle.format.specs.Written.{payloadsBytes, cardsBytes, written}
 use Rattle.round_trip.proofs.Each.{each-map, each-append}
 use Rattle.format.proofs.Checks.{through, passed-test, ok-is}
 use Rattle.round_trip.proofs.Rewritten.{accepted}
-use Rattle.format.proofs.Bytes.{AllBytes}
 use Rattle.format.proofs.Compared.{reads-version}
 use Rattle.format.proofs.Same.{bytes-self, writes-self, core-append, played-append}
 use Rattle.format.proofs.Writes.{writes-append}
@@ -197,13 +197,9 @@ repack-bytes m result s bytes master =
     rw (master .made) at (written-bytes (repacked s) (repacked-within s (accepted m s bytes (master .reads) .0) (master .version-one) (master .in-order) small))
 
 -- and the comparison passes
-pub repack-passes : (m result : List ℕ) (image image′ : ℕ) → AllBytes m → repack m ≡ ok result → 1048576 ≤ image → 1048576 ≤ image′
-    → compared m result image image′ ≡ agreed true
+passes : (m result : List ℕ) (s : Stream) (image image′ : ℕ) → AllBytes m → Master m result s → 1048576 ≤ image → 1048576 ≤ image′ → compared m result image image′ ≡ agreed true
 unfolding compared
-repack-passes m result image image′ bytes e room room′ =
-    let found = repack-taken m result e in
-    let s = found .0 in
-    let master = found .1 in
+passes m result s image image′ bytes master room room′ =
     let two : repacked s .version ≡ 2 = unfold repacked in refl in
     rw (
       reads-version 1 m s (master .reads) (master .version-one),
@@ -211,4 +207,11 @@ repack-passes m result image image′ bytes e room room′ =
       le-ltb image 1048576 room,
       le-ltb image′ 1048576 room′,
       repacked-agrees s (accepted m s bytes (master .reads) .0) (master .version-one) (master .in-order),
+    )
+
+pub repack-passes : RepackedPasses
+repack-passes m result image image′ bytes e =
+    let found = repack-taken m result e in (
+      λ s reads. repack-reads m result (found .0) bytes (found .1) ∙ ap (λ (x : Stream). ok (repacked x)) (ok-is (sym (found .1 .reads) ∙ reads)),
+      passes m result (found .0) image image′ bytes (found .1),
     )

@@ -11,14 +11,13 @@ use lib.Dec.{eqb, ltb, lit≤}
 use lib.ListN.{length, drop}
 use lib.Seq.{drop-length}
 use Rattle.format.specs.declared.header.Header.{Header}
-use Rattle.format.specs.Bytes.{Field, byte, be, bytesOfAll, u32}
+use Rattle.format.specs.Bytes.{AllBytes, Field, byte, be, bytesOfAll, u32}
 use Rattle.format.specs.Checked.{ok}
 use Rattle.format.specs.Header.{headerSize, plainHeader, pooledHeader, headerOf, reservedWrong, periodWrong, periodOf, cardCount}
 use Rattle.format.specs.Limits.{Limits}
 use Rattle.format.specs.Stream.{Stream, openingLimit, read}
 use Rattle.format.specs.Written.{cardsBytes, directoryBytes, payloadsBytes, operationsBytes, framesBytes}
 use Rattle.format.specs.Written.{directoryPlace, payloadsPlace, openingPlace, framesPlace, endPlace, headerIn, pooledFields, headerFields, bodyBytes, written}
-use Rattle.format.proofs.Bytes.{AllBytes}
 use Rattle.format.proofs.Accepted.{Accepted, HeaderPassed, settingFor, opening-limit}
 use Rattle.format.proofs.Accepted as Inversion
 use Rattle.format.proofs.Checks.{or-false}

@@ -11,22 +11,22 @@ use lib.Dec.{eqb, ltb}
 use lib.ListN.{length, getD}
 use Rattle.format.specs.declared.operation.Operation.{Operation}
 use Rattle.format.specs.declared.operation.Operation.the-variants.{Write, Fill, Copy}
-use Rattle.format.specs.Bytes.{byte, be, bytesOfAll, u16}
+use Rattle.format.specs.Bytes.{AllBytes, byte, be, bytesOfAll, u16}
 use Rattle.format.specs.Checked.{ok}
 use Rattle.format.specs.Limits.{Each, OperationFits, FrameFits}
 use Rattle.format.specs.Pool.{noPool, Payload}
-use Rattle.format.specs.Operation.{Setting, Item, addressWidth, sizeOf, fieldsAt, writeRules, fillRules, allowed, operationAt, recordAt, itemAt}
+use Rattle.format.specs.Operation.{extras, Setting, Item, addressWidth, sizeOf, fieldsAt, writeRules, fillRules, allowed, operationAt, recordAt, itemAt}
 use Rattle.format.specs.Stream.{operationsFrom, framesFrom}
 use Rattle.format.specs.Target.{targetOf, missing, writeLimit, outside}
 use Rattle.format.specs.Written.{operationFields, withoutFirst, itemBytes, operationsBytes, framesBytes}
-use Rattle.format.proofs.Bytes.{AllBytes, be-below}
+use Rattle.format.proofs.Bytes.{be-below}
 use Rattle.format.proofs.Checks.{passed-test, passed-last, given}
 use Rattle.format.proofs.Steps.{record-is, operation-is, operation-step, frame-step}
 use Rattle.round_trip.proofs.Items.{For}
 use Rattle.round_trip.proofs.Places.{Holds, Took, took-none, took-both, took-fields}
 use Rattle.format.proofs.Fields.{fieldsSize}
 use Rattle.format.proofs.Rules.{passes-inside, passes-takes, copy-allowed}
-use Rattle.format.proofs.Sizes.{extras, size-is, width-range}
+use Rattle.format.proofs.Sizes.{size-is, width-range}
 
 module _ (setting : Setting) (pools : List Payload) (for : For pools setting) (file : List ℕ) (bytes : AllBytes file) where
   -- rules 15 to 19, for the operation that is read at a place

@@ -12,7 +12,7 @@ use Rattle.format.specs.declared.card.CardRequirement.{CardRequirement}
 use Rattle.format.specs.declared.operation.Operation.{Operation}
 use Rattle.format.specs.declared.operation.Operation.the-variants.{Write, Fill, Copy}
 use Rattle.targets.specs.declared.Target.the-variants.{Core, Pcm, Bank, Si22, Missing}
-use Rattle.format.specs.Bytes.{bytesOf, Field, u8, u, raw, u16, u32, bytesOfAll}
+use Rattle.format.specs.Bytes.{AllBytes, bytesOf, Field, u8, u, raw, u16, u32, bytesOfAll}
 use Rattle.format.specs.Limits.{Each, Bytes, OperationFits, FrameFits, CardsFit, PoolFits, Limits}
 use Rattle.format.specs.Operation.{addressWidth}
 use Rattle.format.specs.Pool.{Payload, kindWrong}
@@ -21,7 +21,6 @@ use Rattle.format.specs.Target.{slotOf, slotTarget, targetOf, missing}
 use Rattle.format.specs.Written.{operationFields, withoutFirst, itemBytes, operationsBytes, framesBytes, cardFields, cardsBytes, entryFields, directoryBytes, payloadsBytes, payloadsPlace}
 use Rattle.format.specs.Written.{headerIn, plainFields, pooledFields, headerFields, bodyBytes, written}
 use Rattle.round_trip.proofs.Each.{each-append, all-bytes}
-use Rattle.format.proofs.Bytes.{AllBytes}
 use Rattle.format.proofs.Steps.{KindIs, is-wave, is-pcm, is-bank, kind-is}
 
 abbrev IsByte : ℕ → Type 0

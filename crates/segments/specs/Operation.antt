@@ -5,7 +5,7 @@ use mathlib.Core.List.{List}
 use lib.Dec.{ltb}
 use Rattle.format.specs.declared.operation.Operation.{Operation}
 use Rattle.format.specs.declared.operation.Operation.the-variants.{Write, Fill, Copy}
-use Rattle.format.specs.Pace.{countOf, addressOf}
+use Rattle.play_laws.specs.Pace.{countOf, addressOf}
 use Rattle.format.specs.Pool.{poolAt}
 use Rattle.writes.specs.declared.Segment.{Segment}
 use Rattle.segments.specs.Place.{oneValue}

@@ -7,7 +7,7 @@ use Rattle.format.specs.declared.operation.Operation.{Operation}
 use Rattle.format.specs.declared.player.StreamPlayer.{StreamPlayer}
 use Rattle.format.specs.Checked.{Checked, ok, refused}
 use Rattle.format.specs.Operation.{Item}
-use Rattle.format.specs.Pace.{countOf, addressOf}
+use Rattle.play_laws.specs.Pace.{countOf, addressOf}
 use Rattle.segments.specs.declared.place.Place.{Place}
 use Rattle.segments.specs.declared.place.Turn.{Turn}
 use Rattle.segments.specs.Place.{oneValue, stopped, onward, runPlace}

@@ -8,7 +8,7 @@ use native.Mathlib.Numerals.{add-one}
 use native.Mathlib.Omega.{arith}
 use borrow.Author.Tests.{eq-eqb, ne-eqb, lt-ltb, le-ltb}
 use lib.Dec.{eqb}
-use lib.ListN.{length, take, drop, replicate}
+use lib.ListN.{length, getD, take, drop, replicate}
 use lib.Seq.{drop-cons, drop-drop, take-nil, take-take}
 use Rattle.format.specs.declared.header.Header.{Header}
 use Rattle.format.specs.declared.operation.Operation.{Operation}
@@ -17,7 +17,7 @@ use Rattle.format.specs.declared.operation.WriteRecord.{WriteRecord}
 use Rattle.format.specs.Bytes.{byte, be, part}
 use Rattle.format.specs.Checked.{ok}
 use Rattle.format.specs.Operation.{Setting, Item, addressWidth, sizeOf, fieldsAt, allowed, recordAt, operationAt, itemAt}
-use Rattle.format.specs.Pool.{poolAt}
+use Rattle.format.specs.Pool.{noPool, poolAt}
 use Rattle.format.specs.Size.{operationMost}
 use Rattle.format.specs.Stream.{Stream, operationsFrom}
 use Rattle.format.specs.Writes.{write, upward, payload, writesWith, writesOf, writesOfAll}
@@ -122,7 +122,7 @@ module _ (file : List ℕ) (header : Header) (s : Stream) (acc : Accepted file h
   abbrev setting : Setting
   setting = settingFor file header (s .cards)
 
-  pool-is : (id : ℕ) → id < header .«pool_count» → PoolIs file directory id (payload (s .pools) id)
+  pool-is : (id : ℕ) → id < header .«pool_count» → PoolIs file directory id (getD (s .pools) id noPool)
   pool-is id h =
       rw zero-add at (pools-are (header .version) file directory (header .«pool_count») 0 (directory + header .«pool_count» * 16) (s .pools, header .«initial_start») (acc .pools) id h)
 

@@ -1,4 +1,4 @@
-// A player's state and its progress: made, moved on, and asked for a wave source. No other crate makes a progress.
+// A player's state and its progress: made and moved on. No other crate makes a progress.
 mod progress;
 
 use format::CardRequirement;
@@ -7,7 +7,6 @@ use format::Header;
 use format::Part;
 use format::Progress;
 use format::StreamPlayer;
-use format::WaveSource;
 pub use progress::closing_at;
 pub use progress::frame_begun;
 pub use progress::frame_ended;
@@ -16,7 +15,7 @@ pub use progress::placed;
 pub use progress::unplayed;
 ghost use mathlib.Core.List.{[]};
 ghost use mathlib.Core.Path.{_≡_};
-ghost use Rattle.format.specs.State.{noCard, tableOf, partOf, refusedPlayer, moved, waveSource};
+ghost use Rattle.format.specs.State.{noCard, tableOf, partOf, refusedPlayer, moved};
 
 // What stands for a card that is not there.
 pub fn no_card() -> CardRequirement
@@ -83,23 +82,6 @@ pub fn moved(state: StreamPlayer, progress: Progress) -> StreamPlayer
         cards: cards,
         uses_si22: state.uses_si22,
         progress: progress,
-    }
-}
-
-// The pool last copied to a core's channel, if any was.
-pub fn wave_source(state: StreamPlayer, core: usize, channel: usize) -> WaveSource
-    ensures { λ r. ⌜ r ≡ waveSource state core channel ⌝ }
-{
-    if core < 2 {
-        if channel < 8 {
-            let progress = state.progress;
-            let i = core * 8 + channel;
-            return progress.wave_sources[i];
-        }
-    }
-    WaveSource {
-        copied: false,
-        pool: 0,
     }
 }
 

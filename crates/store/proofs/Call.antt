@@ -38,7 +38,7 @@ opening-within state file e =
     let before : Bool = ltb (length file) (state .progress .cursor) || ltb (length file) (header .«initial_start») in
     let first : Bool = ltb (length file) (header .«frame_start») in
     let total = passed-test 25 0 (not (eqb (length file) (header .«total_size»))) e in
-    let known = passed-test 25 0 (eqb (header .version) 0 || ltb 4 (header .version) || ltb 8 (state .cards .count)) (total .1) in
+    let known = passed-test 25 0 (eqb (header .version) 0 || ltb 4 (header .version) || ltb 8 (header .«card_count») || ltb 8 (state .cards .count)) (total .1) in
     let places = passed-test 25 0 (before || first || ltb (length file) (header .«directory_offset»)) (known .1) in
     let within = or-false before first (or-false (before || first) (ltb (length file) (header .«directory_offset»)) (places .0) .0) .1 in
     opening-limit header file (ltb-false _ _ within) .1

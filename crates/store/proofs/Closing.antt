@@ -12,9 +12,8 @@ use Rattle.format.specs.declared.operation.WriteRecord.{WriteRecord}
 use Rattle.format.specs.declared.player.Progress.{Progress}
 use Rattle.format.specs.declared.player.StreamPlayer.{StreamPlayer}
 use Rattle.format.specs.Checked.{ok}
-use Rattle.format.specs.Pace.{closingCount}
 use Rattle.format.specs.Player.{Played, playClosing}
-use Rattle.format.specs.Writes.{write, upward, silence, closingWrites}
+use Rattle.format.specs.Writes.{write, upward, silence, closingWrites, closingCount}
 use Rattle.format.proofs.Checks.{passed-test, ok-is}
 use Rattle.segments.specs.declared.place.Place.{Place}
 use Rattle.segments.specs.declared.place.Turn.{Turn}

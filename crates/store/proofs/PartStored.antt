@@ -13,7 +13,7 @@ use Rattle.format.specs.declared.player.Progress.{Progress}
 use Rattle.format.specs.declared.player.StreamPlayer.{StreamPlayer}
 use Rattle.format.specs.Checked.{ok, _>>=_}
 use Rattle.format.specs.Operation.{Item}
-use Rattle.format.specs.Pace.{countOf, addressOf}
+use Rattle.play_laws.specs.Pace.{countOf, addressOf}
 use Rattle.format.specs.Player.{itemUsed, bytesAt, Gathered, gathered}
 use Rattle.format.specs.Writes.{writesWith}
 use Rattle.format.proofs.Checks.{through, ok-is}

@@ -15,7 +15,7 @@ use Rattle.format.specs.declared.player.StreamPlayer.{StreamPlayer}
 use Rattle.format.specs.declared.player.WaveSource.{WaveSource}
 use Rattle.format.specs.Checked.{ok, _>>=_}
 use Rattle.format.specs.Operation.{Item, itemAt}
-use Rattle.format.specs.Pace.{countOf, addressOf}
+use Rattle.play_laws.specs.Pace.{countOf, addressOf}
 use Rattle.format.specs.Player.{settingIn, itemUsed, bytesAt, wavesBy, placed, Gathered, gathered}
 use Rattle.format.specs.Writes.{writesWith}
 use Rattle.format.proofs.Checks.{through, passed-test, ok-is}

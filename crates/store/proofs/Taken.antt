@@ -10,7 +10,7 @@ use Rattle.format.specs.declared.operation.Operation.{Operation}
 use Rattle.format.specs.declared.operation.Operation.the-variants.{Write, Fill, Copy}
 use Rattle.format.specs.declared.operation.WriteRecord.{WriteRecord}
 use Rattle.format.specs.Bytes.{byte, part}
-use Rattle.format.specs.Pace.{countOf, addressOf, writeAt}
+use Rattle.play_laws.specs.Pace.{countOf, addressOf, writeAt}
 use Rattle.format.specs.Player.{bytesAt}
 use Rattle.format.specs.Pool.{poolAt}
 use Rattle.format.specs.Writes.{write, writesWith}

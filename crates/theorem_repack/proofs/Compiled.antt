@@ -7,11 +7,11 @@ use mathlib.Core.List.{List}
 use lib.Dec.{ltb}
 use lib.ListN.{length, take, drop}
 use lib.Seq.{take-at}
+use Rattle.format.specs.Bytes.{AllBytes}
 use Rattle.format.specs.Checked.{Checked, ok, refused, mapped}
 use Rattle.format.specs.Compare.{compared, agreed}
 use Rattle.format.specs.Lent.{lentAfter}
 use Rattle.format.specs.Repack.{repack, repackInto}
-use Rattle.format.proofs.Bytes.{AllBytes}
 use Rattle.format.proofs.Checks.{ok-is, refused-not-ok, through, passed-test}
 use Rattle.round_trip.proofs.Repacked.{repack-passes}
 use Rattle.compile.specs.declared.song.Repacked.the-variants.{Written}
@@ -43,4 +43,4 @@ compiled file buffer buffer′ size answer = go (repackInto file (length buffer)
 pub compiled-passes : (file buffer buffer′ : List ℕ) (size image image′ : ℕ) → Repacks file buffer buffer′ (Written size) → AllBytes file → 1048576 ≤ image → 1048576 ≤ image′
     → compared file (take size buffer′) image image′ ≡ agreed true
 compiled-passes file buffer buffer′ size image image′ answer bytes room room′ =
-    repack-passes file (take size buffer′) image image′ bytes (compiled file buffer buffer′ size answer .made) room room′
+    repack-passes file (take size buffer′) image image′ bytes (compiled file buffer buffer′ size answer .made) .1 room room′

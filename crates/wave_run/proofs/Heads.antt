@@ -6,8 +6,8 @@ use mathlib.Core.List.{List}
 use native.Mathlib.Omega.{arith}
 use borrow.Author.Tests.{eqb-true, ne-eqb}
 use lib.Dec.{eqb}
-use Rattle.format.specs.Bytes.{byte, be, part}
-use Rattle.format.proofs.Bytes.{AllBytes, be-below, byte-part, be-part}
+use Rattle.format.specs.Bytes.{AllBytes, byte, be, part}
+use Rattle.format.proofs.Bytes.{be-below, byte-part, be-part}
 use Rattle.master.specs.Places.{recordsAt}
 
 module _ (file : List ℕ) (at : ℕ) where

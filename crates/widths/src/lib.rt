@@ -7,8 +7,7 @@ ghost use Prim.Native.Nat.{_+_, _≤_};
 ghost use lib.Dec.{eqb};
 ghost use lib.ListN.{getD};
 ghost use Rattle.format.specs.Bytes.{be};
-ghost use Rattle.format.specs.Operation.{addressWidth, sizeOf};
-ghost use Rattle.format.proofs.Sizes.{extras};
+ghost use Rattle.format.specs.Operation.{addressWidth, extras, sizeOf};
 
 // The sizes of WRITE, FILL and COPY, a row for addresses of 3 bytes and a row for 4.
 const SIZES: [[usize; 3]; 2] = [[6, 10, 15], [7, 11, 16]];

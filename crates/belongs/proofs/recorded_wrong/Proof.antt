@@ -4,4 +4,4 @@ use Rattle.belongs.proofs.recorded_wrong.Statement.{statement}
 use Rattle.belongs.proofs.recorded_wrong.Tie as tie
 
 pub recorded-wrong-spec : {M : Type 1} → statement M
-recorded-wrong-spec = tie.close (tie.spec (λ c. search decided) (λ c. search decided) (λ c. search decided))
+recorded-wrong-spec = tie.close (tie.spec (λ c. search decided) (λ c. search decided) (λ c. search decided) (λ c. search decided))

@@ -44,7 +44,7 @@ use denote.Triple.Walked.{says, Stays, stay-ref, stay-none-slice, gave-slice, wa
 use denote.Exit.{yes}
 use Rattle.format.specs.declared.operation.WriteRecord.{WriteRecord}
 use Rattle.format.specs.declared.player.StreamPlayer.{StreamPlayer}
-use Rattle.format.specs.Pace.{planned}
+use Rattle.play_laws.specs.Pace.{planned}
 use Rattle.format.proofs.operation.WriteRecord as T
 use Rattle.format.proofs.player.StreamPlayer as P
 use Rattle.format.proofs.player.StreamPlayer.Laws as P′
@@ -95,7 +95,7 @@ module _ {M : Type 1} (𝓤 : URA M) (H : Heap 𝓤) (A : Atoms 𝓤) (W : Given
   ans r = LL.val Y.the-type Y′.the-laws (toldOf r)
 
   ans-is : (r : CallPlan) → Is S.the-row r (LL.vals S.the-type S′.the-laws r) → Is Y.the-row (toldOf r) (ans r ∷ [])
-  ans-is r is = let each = LL.owed S.the-type S′.the-laws r _ is in LL.owes Y.the-type Y′.the-laws (toldOf r) (each .0, (each .1 .0, (each .1 .1 .0, tt)))
+  ans-is r is = let each = LL.owed S.the-type S′.the-laws r _ is in LL.owes Y.the-type Y′.the-laws (toldOf r) (each .0, (each .1 .0, (each .1 .1 .0, (each .1 .1 .1 .0, tt))))
 
   -- the plan, and the run that `store_call` leaves
   abbrev Planned : CallPlan → Type 0
@@ -152,7 +152,7 @@ module _ {M : Type 1} (𝓤 : URA M) (H : Heap 𝓤) (A : Atoms 𝓤) (W : Given
   goes-store r was is =
       qed W (‵ (flft (x .κ₃) (x .q₃)) ∷ ‵ (flft (x .κ₂) (x .q₂)) ∷ (‵ (Run x) ⊛ ‵ (File x)) ∷ []) ∵ move ! (2 ∷ []) $ split ! $
       -- [run; file; run's token; file's token]
-      nothing ! $ owned ! usize (Is usize) (uint-makes 𝓤 H A W w64) (r .count) _ (refl, LL.owed S.the-type S′.the-laws r _ is .1 .0 .1) $ fjoin ! $
+      nothing ! $ owned ! usize (Is usize) (uint-makes 𝓤 H A W w64) (r .count) _ (refl, LL.owed S.the-type S′.the-laws r _ is .1 .1 .0 .1) $ fjoin ! $
       owned ! P.the-row (Is P.the-row) ((LL.makes P.the-type P′.the-plain) 𝓤 H A) (x .h) _ was $ fjoin ! $ move ! (2 ∷ 0 ∷ []) $ fjoin ! $ move ! (1 ∷ 0 ∷ []) $ fjoin ! $
       nothing ! $ move ! (3 ∷ 0 ∷ []) $ join ! $ move ! (2 ∷ 0 ∷ []) $ join ! $ nothing ! $ move ! (1 ∷ 2 ∷ 0 ∷ []) $ join ! $ join ! $ done !
 
@@ -190,12 +190,13 @@ module _ {M : Type 1} (𝓤 : URA M) (H : Heap 𝓤) (A : Atoms 𝓤) (W : Given
       -- the next state is stored, and the function returns
       ends : (r : CallPlan) (zs : List WriteRecord) → Planned r → Is S.the-row r (LL.vals S.the-type S′.the-laws r) → Wrote r zs → length zs ≡ length (x .ys) → Sq W (Stored r zs) (runs C Λ En code.Mir.t-7 (atRet En Post))
       ends r zs e is e′ l =
-          assigns ! (of-opd ! (load ! (from ! (fld ! refl (stop !))) (look-in ! 16 (sub ! 3 refl (whole !))))) (from ! (hop ! (look ! 24 refl) (stop !)))
-          (store-raw ! 0 refl (LL.lawful P.the-type P′.the-laws 𝓤 H A W .typed (r .next) _ (LL.owed S.the-type S′.the-laws r _ is .1 .1 .1 .0) .0)) $
+          assigns ! (of-opd ! (load ! (from ! (fld ! refl (stop !))) (look-in ! 16 (sub ! 4 refl (whole !))))) (from ! (hop ! (look ! 24 refl) (stop !)))
+          (store-raw ! 0 refl (LL.lawful P.the-type P′.the-laws 𝓤 H A W .typed (r .next) _ (LL.owed S.the-type S′.the-laws r _ is .1 .1 .1 .1 .0) .0)) $
           assigns ! (agg ! (and-then ! (load ! (from ! (fld ! refl (stop !))) (look-in ! 16 (sub ! 0 refl (whole !))))
-          (and-then ! (load ! (from ! (fld ! refl (stop !))) (look-in ! 16 (sub ! 1 refl (whole !)))) (and-then ! (load ! (from ! (fld ! refl (stop !))) (look-in ! 16 (sub ! 2 refl (whole !)))) (no-more !)))))
+          (and-then ! (load ! (from ! (fld ! refl (stop !))) (look-in ! 16 (sub ! 1 refl (whole !)))) (and-then ! (load ! (from ! (fld ! refl (stop !))) (look-in ! 16 (sub ! 2 refl (whole !))))
+          (and-then ! (load ! (from ! (fld ! refl (stop !))) (look-in ! 16 (sub ! 3 refl (whole !)))) (no-more !))))))
           (from ! (stop !)) (init ! 26 refl (LL.lawful Y.the-type Y′.the-laws 𝓤 H A W .typed (toldOf r) _ (ans-is r is) .0)) $
-          owned ! P.the-row (Is P.the-row) ((LL.makes P.the-type P′.the-plain) 𝓤 H A) (r .next) _ (LL.owed S.the-type S′.the-laws r _ is .1 .1 .1 .0) $ move ! (1 ∷ 0 ∷ []) $
+          owned ! P.the-row (Is P.the-row) ((LL.makes P.the-type P′.the-plain) 𝓤 H A) (r .next) _ (LL.owed S.the-type S′.the-laws r _ is .1 .1 .1 .1 .0) $ move ! (1 ∷ 0 ∷ []) $
           closes ! tt P.the-row (r .next) (LL.vals P.the-type P′.the-laws (r .next)) (x .b) (x .o) $
           returns ! (look ! 25 refl) $ forget ! 25 refl $ forget ! 23 refl $ forget ! 21 refl $ forget ! 19 refl $ forget ! 17 refl $ forget ! 15 refl $ forget ! 13 refl $
           move ! (25 ∷ 26 ∷ []) $ free1 ! $ move ! (23 ∷ 24 ∷ []) $ free1 ! $ move ! (21 ∷ 22 ∷ []) $ free1 ! $ move ! (19 ∷ 20 ∷ []) $ free1 ! $ move ! (17 ∷ 18 ∷ []) $
@@ -214,7 +215,7 @@ module _ {M : Type 1} (𝓤 : URA M) (H : Heap 𝓤) (A : Atoms 𝓤) (W : Given
           -- [the callee's need; file; the state's cell; the open borrow; obs; auth; the locals]
           calls-at ! fm (Stores 𝓤 H A at-mem run) known-store (to-store r)
           (and-then ! (load ! (from ! (stop !)) (look ! 6 refl))
-          (and-then ! (load ! (from ! (stop !)) (look ! 20 refl)) (and-then ! (load ! (from ! (stop !)) (look ! 16 refl)) (and-then ! (load ! (from ! (fld ! refl (stop !))) (look-in ! 14 (sub ! 1 refl (whole !)))) (no-more !))))) (λ v.
+          (and-then ! (load ! (from ! (stop !)) (look ! 20 refl)) (and-then ! (load ! (from ! (stop !)) (look ! 16 refl)) (and-then ! (load ! (from ! (fld ! refl (stop !))) (look-in ! 14 (sub ! 2 refl (whole !)))) (no-more !))))) (λ v.
           use1 W (later (some (λ (z : Unit {0}). ((‵ (flft (x .κ₃) (x .q₃)) ⊛ ‵ (flft (x .κ₂) (x .q₂)) ⊛ ‵ ftrue) ⊛ ‵ (Nothing .own z (v ∷ [])))
           ⊛ raw (ensured 𝓤 H A sc.ended (sc.clauses 𝓤 H A at-mem run) ((x .κ₃), ((x .κ₂), tt)) (to-store r .0 .3) tt z)))) (id⊢ 𝓤 _) $ await ! tt $ pick ! (λ z.
           split ! $ move ! (1 ∷ []) $ use1 W (some (λ (zs : Lasts sc.ended ((x .κ₃), ((x .κ₂), tt)) (to-store r .0 .3)). ‵ (lasts sc.ended ((x .κ₃), ((x .κ₂), tt)) (to-store r .0 .3) zs)

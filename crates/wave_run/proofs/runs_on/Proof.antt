@@ -2,8 +2,8 @@
 use Prim.Native.Nat.{_+_, _-_, _*_, _≤_}
 use mathlib.Core.Path.{_≡_, sym, _∙_}
 use native.Mathlib.Nat.{add-zero}
+use Rattle.format.specs.Bytes.{AllBytes}
 use Rattle.format.specs.Repack.{runs}
-use Rattle.format.proofs.Bytes.{AllBytes}
 use Rattle.master.specs.Places.{recordsAt}
 use Rattle.master.proofs.Pieces.{runs-next, runs-not, runs-none}
 use Rattle.wave_run.proofs.Heads.{head-same, head-differs}

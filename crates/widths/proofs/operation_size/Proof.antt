@@ -7,8 +7,8 @@ use mathlib.Core.Bool.{Bool, true, false, cond}
 use borrow.Author.Tests.{eqb-true, eqb-false}
 use lib.Dec.{eqb}
 use lib.ListN.{getD}
-use Rattle.format.specs.Operation.{sizeOf}
-use Rattle.format.proofs.Sizes.{extras, size-is}
+use Rattle.format.specs.Operation.{extras, sizeOf}
+use Rattle.format.proofs.Sizes.{size-is}
 use Rattle.widths.proofs.operation_size.Statement.{statement}
 use Rattle.widths.proofs.operation_size.Tie as tie
 

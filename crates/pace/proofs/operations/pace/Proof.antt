@@ -4,7 +4,7 @@ use native.Mathlib.Omega.{arith}
 use borrow.Author.Tests.{lt-ltb, le-ltb}
 use Prim.Native.Nat.{_+_, _^_, _≤_, _<_}
 use mathlib.Core.Path.{_≡_}
-use Rattle.format.specs.Pace.{paced}
+use Rattle.play_laws.specs.Pace.{paced}
 use Rattle.format.specs.Player.{placed, operationsLeft, as25}
 use Rattle.play_laws.proofs.Paced.{paced-end, paced-full}
 use Rattle.pace.proofs.Pacing.{paced-25}

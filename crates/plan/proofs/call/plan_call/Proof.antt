@@ -2,7 +2,7 @@
 use native.Mathlib.Omega.{arith}
 use mathlib.Core.Path.{ap, _∙_}
 use Rattle.format.specs.Checked.{refuse}
-use Rattle.format.specs.Pace.{planned}
+use Rattle.play_laws.specs.Pace.{planned}
 use Rattle.belongs.proofs.Belongs.{foreign-is}
 use Rattle.plan.proofs.Begins.{planned-foreign, planned-own}
 use Rattle.plan.proofs.call.plan_call.Statement.{statement}

@@ -2,7 +2,7 @@
 use native.Mathlib.Omega.{arith}
 use borrow.Author.Tests.{eq-eqb, ne-eqb}
 use Prim.Native.Nat.{_-_}
-use Rattle.format.specs.Pace.{planOpening}
+use Rattle.play_laws.specs.Pace.{planOpening}
 use Rattle.plan.proofs.Telling.{told-bind, told-behind}
 use mathlib.Core.Path.{ap}
 use Rattle.plan.specs.declared.taken.Taken.{Taken}

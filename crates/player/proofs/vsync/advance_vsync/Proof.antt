@@ -137,7 +137,7 @@ module _ {M : Type 1} (𝓤 : URA M) (H : Heap 𝓤) (A : Atoms 𝓤) (W : Given
     module _ (r : EmptyStep) (is : Is Q.the-row r (LL.vals Q.the-type Q′.the-laws r)) where
       -- what it tells, and the position that it goes to, are values of their types
       told-is : Is Y.the-row emptyTold (LL.vals Y.the-type Y′.the-laws emptyTold)
-      told-is = LL.owes Y.the-type Y′.the-laws emptyTold ((refl, lit< tt), ((refl, lit< tt), (refl, tt)))
+      told-is = LL.owes Y.the-type Y′.the-laws emptyTold ((refl, lit< tt), ((refl, lit< tt), ((refl, lit< tt), (refl, tt))))
 
       position-is : Is N.the-row (r .to) (LL.vals N.the-type N′.the-laws (r .to))
       position-is = LL.owed Q.the-type Q′.the-laws r _ is .1 .1 .0
@@ -190,7 +190,8 @@ module _ {M : Type 1} (𝓤 : URA M) (H : Heap 𝓤) (A : Atoms 𝓤) (W : Given
           moved-on 𝓤 H A W at-mem run x (r .to) _ _ tt v (λ u is₂.
           -- [the last state; the three tokens; run; file; the locals]
           land ! (from ! (stop !)) (init ! 14 refl (nothing-lawful 𝓤 H A W .typed u _ is₂ .0)) $
-          assigns ! (agg ! (and-then ! (lit ! tt) (and-then ! (lit ! tt) (and-then ! (true-lit !) (no-more !))))) (from ! (stop !)) (init ! 38 refl (LL.lawful Y.the-type Y′.the-laws 𝓤 H A W .typed emptyTold _ (told-is was r is) .0)) $
+          assigns ! (agg ! (and-then ! (lit ! tt) (and-then ! (lit ! tt) (and-then ! (lit ! tt) (and-then ! (true-lit !) (no-more !)))))) (from ! (stop !))
+          (init ! 38 refl (LL.lawful Y.the-type Y′.the-laws 𝓤 H A W .typed emptyTold _ (told-is was r is) .0)) $
           returns-within ! (Post 𝓤 H A at-mem run x) at-end (look ! 38 refl) $ forget ! 38 refl $ forget ! 36 refl $ forget ! 34 refl $ forget ! 32 refl $ forget ! 30 refl $
           forget ! 28 refl $ forget ! 22 refl $ forget ! 14 refl $ forget ! 12 refl $
           move ! (38 ∷ 39 ∷ []) $ free1 ! $ move ! (36 ∷ 37 ∷ []) $ free1 ! $ move ! (34 ∷ 35 ∷ []) $ free1 ! $ move ! (32 ∷ 33 ∷ []) $ free1 ! $ move ! (30 ∷ 31 ∷ []) $

@@ -141,7 +141,7 @@ module _ {M : Type 1} (𝓤 : URA M) (H : Heap 𝓤) (A : Atoms 𝓤) (W : Given
 
       -- what it tells, and the position that it goes to, are values of their types
       told-is : Is Y.the-row (stepTold r) (LL.vals Y.the-type Y′.the-laws (stepTold r))
-      told-is = LL.owes Y.the-type Y′.the-laws (stepTold r) ((refl, lit< tt), (LL.owed Q.the-type Q′.the-laws r _ is .1 .1 .1 .1 .1 .0, (LL.owed Q.the-type Q′.the-laws r _ is .1 .1 .1 .1 .1 .1 .0, tt)))
+      told-is = LL.owes Y.the-type Y′.the-laws (stepTold r) ((refl, lit< tt), ((refl, lit< tt), (LL.owed Q.the-type Q′.the-laws r _ is .1 .1 .1 .1 .1 .0, (LL.owed Q.the-type Q′.the-laws r _ is .1 .1 .1 .1 .1 .1 .0, tt))))
 
       position-is : Is N.the-row (r .to) (LL.vals N.the-type N′.the-laws (r .to))
       position-is = LL.owed Q.the-type Q′.the-laws r _ is .1 .1 .1 .1 .1 .1 .1 .0
@@ -221,8 +221,8 @@ module _ {M : Type 1} (𝓤 : URA M) (H : Heap 𝓤) (A : Atoms 𝓤) (W : Given
           moved-on 𝓤 H A W at-mem run x (r .to) _ _ tt v (λ u is₂.
           -- [the last state; the three tokens; the last run; file; the locals]
           land ! (from ! (stop !)) (init ! 18 refl (nothing-lawful 𝓤 H A W .typed u _ is₂ .0)) $
-          assigns ! (agg ! (and-then ! (lit ! tt) (and-then ! (load ! (from ! (fld ! refl (stop !))) (look-in ! 24 (sub ! 5 refl (whole !))))
-          (and-then ! (load ! (from ! (fld ! refl (stop !))) (look-in ! 24 (sub ! 6 refl (whole !)))) (no-more !)))))
+          assigns ! (agg ! (and-then ! (lit ! tt) (and-then ! (lit ! tt) (and-then ! (load ! (from ! (fld ! refl (stop !))) (look-in ! 24 (sub ! 5 refl (whole !))))
+          (and-then ! (load ! (from ! (fld ! refl (stop !))) (look-in ! 24 (sub ! 6 refl (whole !)))) (no-more !))))))
           (from ! (stop !)) (init ! 34 refl (LL.lawful Y.the-type Y′.the-laws 𝓤 H A W .typed (stepTold r) _ (told-is was r is) .0)) $
           returns-within ! (Post 𝓤 H A at-mem run x) at-end (look ! 34 refl) $ forget ! 34 refl $ forget ! 32 refl $ forget ! 30 refl $ forget ! 28 refl $ forget ! 26 refl $
           forget ! 24 refl $ forget ! 22 refl $ forget ! 20 refl $ forget ! 18 refl $ forget ! 12 refl $

@@ -5,21 +5,21 @@ use mathlib.Core.Bool.{Bool, true, false, cond, not}
 use mathlib.Core.List.{List}
 use lib.ListN.{length}
 use lib.Dec.{eqb, leb, ltb}
 use Rattle.format.specs.declared.operation.Operation.{Operation}
 use Rattle.format.specs.declared.operation.Operation.the-variants.{Write, Fill, Copy}
 use Rattle.format.specs.declared.player.Part.{Part}
 use Rattle.format.specs.declared.player.Part.the-variants.{Between, Opening, Frame, Closing}
 use Rattle.format.specs.declared.player.Progress.{Progress}
 use Rattle.format.specs.declared.player.StreamPlayer.{StreamPlayer}
 use Rattle.format.specs.declared.operation.WriteRecord.{WriteRecord}
 use Rattle.format.specs.Bytes.{byte}
 use Rattle.format.specs.Checked.{Checked, ok, refuse, _>>=_, _>>_}
 use Rattle.format.specs.State.{partOf, moved}
 use Rattle.format.specs.Player.{itemUsed, wavesBy, placed, Played, openingBegun, frameBegun, frameEnded, closingAt, operationsLeft, belongs, as25}
 use Rattle.format.specs.Pool.{poolAt}
 use Rattle.format.specs.Stream.{openingLimit}
 use Rattle.format.specs.Next.{nextPart, byNext}
-use Rattle.format.specs.Writes.{write}
+use Rattle.format.specs.Writes.{write, closingCount}
 
 -- how many writes an operation makes
 abbrev pub countOf : Operation → ℕ
@@ -74,10 +74,6 @@ planOpening state file room p = do
     frame ← frameBegun file (state .header .«frame_start») 0 after
     more ← planFrame state file left frame
     ok (record { count = room - left + more .count; complete = more .complete; next = more .next })
-
--- how many closing writes there are: one more with target 11
-abbrev pub closingCount : (synth : Bool) → ℕ
-closingCount synth = cond synth 33 32
 
 unfoldable pub planClosing : StreamPlayer → (room : ℕ) → Progress → Checked Plan
 planClosing state room p = do
