@@ -10,8 +10,8 @@ use Rattle.format.specs.Player.{Played}
 use Rattle.format.specs.State.{started}
 use Rattle.format.specs.Stream.{Stream, read}
 
--- what holds of the answers that two players told their listeners: "both listeners hold the same, and each vsync's records, over its
--- calls, are its writes by the rules above"
+-- what holds of the answers that two players told their listeners: "both listeners hold the same", and the records of each vsync are "its
+-- writes by the rules above"
 pub record Together (master other : List ℕ) (told told′ : List (Checked Played)) : Type 0 where
   pub s : Stream
   pub s′ : Stream

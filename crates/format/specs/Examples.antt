@@ -90,7 +90,7 @@ table =
     -- P10 "core FILL at 0x7FF length 1 passes, 2: 17"
     ∷ record { found = verdict (withFill 0 0x7FF 1 7); expected = accepted 2 1 1 }
     ∷ record { found = verdict (withFill 0 0x7FF 2 7); expected = refusal 17 40 }
-    -- P11 "opening PCM record (0, 0x55) and one empty frame: repacks to 84 bytes; first at address 1: 22"
+    -- P11 "opening PCM record (0, 0x55) and one empty frame": "repacks to 84 bytes"; "first at address 1: 22"
     ∷ record { found = answer (mapped (λ (bytes : List ℕ). length bytes ∷ []) (repack (withRecord 2 0 0x55))); expected = 0 ∷ 84 ∷ [] }
     ∷ record { found = answer (repack (withRecord 2 1 0x55)); expected = refusal 22 0 }
     -- P12 "P3 played: no writes, then 32, then none"

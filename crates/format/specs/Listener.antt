@@ -84,7 +84,7 @@ unfoldable pub vsyncsFrom : Stream → (k count : ℕ) → List (List WriteRecor
 vsyncsFrom s k zero = []
 vsyncsFrom s k (suc count) = vsync s k ∷ vsyncsFrom s (suc k) count
 
--- the wave sources when vsync k comes: "the pool last copied by a kind 1 COPY to that core and address div 256"
+-- the wave sources when vsync k comes: each "the pool last copied by a kind 1 COPY"
 unfoldable pub wavesBefore : List ℕ → Stream → (k : ℕ) → List WaveSource
 wavesBefore file s zero = replicate 16 noWave
 wavesBefore file s (suc k) = wavesByAll file (headerOf file .«directory_offset») (vsyncOperations s k) (wavesBefore file s k)
@@ -106,8 +106,7 @@ abbrev pub ending : Bool → Listener → Listener
 ending true l = record { ended = l .ended ++ (l .current ∷ []); current = []; pcm = l .pcm }
 ending false l = l
 
--- "a record to target 0 or 1 is a register write and joins the current vsync's; one to target 2 puts its value at its address";
--- "a refused call changes nothing"
+-- a record to a core "joins the current vsync's" writes; "one to target 2 puts its value at its address"; "a refused call changes nothing"
 unfoldable pub heard : Listener → Checked Played → Listener
 heard l (refused number place) = l
 heard l (ok answer) =

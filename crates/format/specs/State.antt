@@ -180,7 +180,7 @@ started file = startedAs file (read file)
 abbrev pub moved : StreamPlayer → Progress → StreamPlayer
 moved state progress = record { header = state .header; cards = state .cards; «uses_si22» = state .«uses_si22»; progress = progress }
 
--- "the pool last copied by a kind 1 COPY to that core and address div 256; outside 2 × 8, none"
+-- "the pool last copied by a kind 1 COPY" to that core and channel; "outside 2 × 8, none"
 unfoldable pub waveSource : StreamPlayer → (core channel : ℕ) → WaveSource
 waveSource state core channel =
     cond (ltb core 2 && ltb channel 8) (getD (state .progress .«wave_sources») (core * 8 + channel) noWave) noWave
