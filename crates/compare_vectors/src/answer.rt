@@ -34,7 +34,7 @@ fn is_answer(stored: &[u8], comparison: Comparison) -> bool {
 }
 
 // Compares two files with images of the stored rooms, and holds answer and images against what is stored.
-pub fn is_same(
+pub(crate) fn is_same(
     master: &[u8],
     other: &[u8],
     stored: &[u8],

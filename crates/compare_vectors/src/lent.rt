@@ -3,14 +3,14 @@ ghost use mathlib.Core.Path.{_≡_};
 ghost use lib.ListN.{length};
 
 // Memory to lend: an image and 16 bytes behind it.
-pub fn memory() -> [u8; 1048592]
+pub(crate) fn memory() -> [u8; 1048592]
     ensures { λ r. ⌜ 1048592 ≡ length r ⌝ }
 {
     [0; 1048592]
 }
 
 // The number of all lent bytes, those behind an image too.
-pub fn mix_all(lent: &[u8]) -> u32 {
+pub(crate) fn mix_all(lent: &[u8]) -> u32 {
     let mut sum = vectors::BASIS;
     let mut at: usize = 0;
     while at < lent.len() {

@@ -41,11 +41,12 @@ fn replay_next(input: i32, image: &mut [u8], other_image: &mut [u8], counts: Cou
     requires { ⌜ 0 < counts .left ⌝ }
     ensures { λ r. ⌜ r .left < counts .left ⌝ }
 {
-    let length = vectors::next_number(input);
+    let mut bytes = [0u8; 4];
+    let length = vectors::next_number(input, &mut bytes);
     if length == vectors::END {
         return vectors::ended(counts);
     }
-    let other_length = vectors::next_number(input) as usize;
+    let other_length = vectors::next_number(input, &mut bytes) as usize;
     vectors::count(
         counts,
         replay(input, length as usize, other_length, image, other_image),

@@ -6,11 +6,11 @@ use mathlib.Core.List.{List, [], _∷_, map, cons≢nil}
 use Rattle.format.specs.Bytes.{sameBytes}
 use Rattle.format.specs.Examples.{Row, failing, table, empty, emptyRepacked, withRecord, withFill}
 use Rattle.format.proofs.Same.{same-bytes}
-use Rattle.format.proofs.Computed.{reading, writing, repacking, listing}
+use Rattle.format.proofs.Computed.{reading, writing, repacking, listing, playing}
 
 -- no row fails: where one does, the refusal shows its number
 none-fails : failing 1 table ≡ []
-unfolding failing table empty emptyRepacked withRecord withFill reading writing repacking listing
+unfolding failing table empty emptyRepacked withRecord withFill reading writing repacking listing playing
 none-fails = refl
 
 row-holds : (n : ℕ) (row : Row) (rows : List Row) (b : Bool) → sameBytes (row .found) (row .expected) ≡ b

@@ -1,5 +1,5 @@
--- Cards of version 4: "slot 0 to 7, rising from card to card; name length 1 to 16; two 0 bytes; u32 name offset, bulk start, bulk
--- length; name padded with 0 to byte 31".
+-- Cards of version 4, 32 bytes each: slot, "rising from card to card", length of the name, two 0 bytes, name offset, bulk start and bulk
+-- length of 4 bytes each, and the name, "padded with 0 to byte 31".
 use Prim.Native.Nat.{ℕ, zero, suc, _+_}
 use mathlib.Core.Bool.{Bool, not, _||_}
 use mathlib.Core.List.{List, [], _∷_}

@@ -33,7 +33,7 @@ unfoldable pub played : List ℕ → List WriteRecord → List ℕ
 played memory [] = memory
 played memory (w ∷ ws) = played (cond (eqb (w .target) 2) (set memory (w .address) (w .value)) memory) ws
 
--- the image of a file: "begun at 0x80 and given the file's opening PCM writes"
+-- the image of a file: "begun at 0x80" and given its opening PCM writes
 abbrev pub imageOf : Stream → List ℕ
 imageOf s = played (replicate pcmSize 0x80) (openingWrites s)
 
@@ -44,7 +44,7 @@ sameFrames pools pools′ [] (f ∷ fs) = false
 sameFrames pools pools′ (f ∷ fs) [] = false
 sameFrames pools pools′ (f ∷ fs) (g ∷ gs) = sameWrites (writesOfAll pools f) (writesOfAll pools′ g) && sameFrames pools pools′ fs gs
 
--- the rule: "repeat and frame count agree; opening writes to cores agree; the images agree; each frame's whole write list agrees"
+-- the rule: "repeat and frame count agree", and so do the openings' writes to cores, the images, and "each frame's whole write list"
 unfoldable pub agree : Stream → Stream → Bool
 agree s s′ =
     Bool·beq (s .repeat) (s′ .repeat)
@@ -78,7 +78,7 @@ compared file file′ image image′ =
     inFile 2 (refuse 24 0 (ltb image′ pcmSize)) λ _.
     agreed (agree s s′)
 
--- "pass or fail, the images then hold those bytes; lent bytes beyond an image stay"; a refusal writes nothing
+-- "Pass or fail, the images then hold those bytes", and what is lent beyond an image stays; a refusal writes nothing
 unfoldable pub imageAfter : Compared → Checked Stream → (image : List ℕ) → List ℕ
 imageAfter (agreed passed) (ok s) image = stored (imageOf s) image
 imageAfter (agreed passed) (refused number place) image = image

@@ -2,13 +2,15 @@
 use Prim.Native.Nat.{ℕ, suc}
 use mathlib.Core.Bool.{cond}
 use mathlib.Core.List.{List, [], _∷_, _++_}
-use lib.ListN.{length, set}
+use lib.ListN.{length, set, replicate}
 use Rattle.format.specs.Bytes.{bytesOf, sameBytes}
 use Rattle.format.specs.Checked.{Checked, ok, refused, mapped}
 use Rattle.format.specs.Header.{letters}
+use Rattle.format.specs.Listener.{Call, answers}
+use Rattle.format.specs.Player.{Played}
 use Rattle.format.specs.Repack.{repack}
+use Rattle.format.specs.State.{started}
 use Rattle.format.specs.Stream.{Stream, read}
-use Rattle.format.specs.Writes.{vsync}
 
 -- what the definitions give, and what the book says
 pub record Row : Type 0 where
@@ -31,9 +33,18 @@ accepted version frames opening = 0 ∷ version ∷ frames ∷ opening ∷ []
 abbrev pub verdict : List ℕ → List ℕ
 verdict file = answer (mapped (λ (s : Stream). s .version ∷ length (s .frames) ∷ length (s .opening) ∷ []) (read file))
 
--- the numbers of writes of the first three vsyncs
-abbrev pub writeCounts : List ℕ → List ℕ
-writeCounts file = answer (mapped (λ (s : Stream). length (vsync s 0) ∷ length (vsync s 1) ∷ length (vsync s 2) ∷ []) (read file))
+-- the answers of vsync calls, one after the other: of each, 1 where it says complete, and how many records it reports
+abbrev pub told : List (Checked Played) → List ℕ
+told [] = []
+told (a ∷ more) = answer (mapped (λ (p : Played). cond (p .complete) 1 0 ∷ length (p .records) ∷ []) a) ++ told more
+
+-- what the book expects of a call whose run holds all writes of its vsync: so many, and complete
+abbrev pub writes : (count : ℕ) → List ℕ
+writes count = 0 ∷ 1 ∷ count ∷ []
+
+-- so many calls of the player that a start gives, each with the player's own file and a run of 64 records
+abbrev pub plays : (calls : ℕ) → List ℕ → List ℕ
+plays calls file = told (answers (started file) (replicate calls (record { file = file; room = 64 })))
 
 unfoldable pub empty : List ℕ
 empty =
@@ -90,11 +101,11 @@ table =
     -- P10 "core FILL at 0x7FF length 1 passes, 2: 17"
     ∷ record { found = verdict (withFill 0 0x7FF 1 7); expected = accepted 2 1 1 }
     ∷ record { found = verdict (withFill 0 0x7FF 2 7); expected = refusal 17 40 }
-    -- P11 "opening PCM record (0, 0x55) and one empty frame: repacks to 84 bytes; first at address 1: 22"
+    -- P11 "opening PCM record (0, 0x55) and one empty frame": "repacks to 84 bytes"; "first at address 1: 22"
     ∷ record { found = answer (mapped (λ (bytes : List ℕ). length bytes ∷ []) (repack (withRecord 2 0 0x55))); expected = 0 ∷ 84 ∷ [] }
     ∷ record { found = answer (repack (withRecord 2 1 0x55)); expected = refusal 22 0 }
     -- P12 "P3 played: no writes, then 32, then none"
-    ∷ record { found = writeCounts empty; expected = 0 ∷ 0 ∷ 32 ∷ 0 ∷ [] }
+    ∷ record { found = plays 3 empty; expected = writes 0 ++ writes 32 ++ writes 0 }
     ∷ []
 
 -- the rows, counted from 1, that do not hold

@@ -13,7 +13,7 @@ use Rattle.format.specs.Size.{recordSize, masterHeaderSize}
 abbrev pub letters : ℕ
 letters = 0x53475542
 
--- "48 bytes where byte 4 exists and is 4, 40 where it is 2 or 3, else 20"
+-- 48 bytes where the version is 4, "40 where it is 2 or 3, else 20"
 unfoldable pub headerSize : (version : ℕ) → ℕ
 headerSize version = cond (eqb version 4) 48 (cond (eqb version 2 || eqb version 3) 40 20)
 
@@ -35,15 +35,14 @@ plainHeader file =
       «total_size» = be 4 file 16;
     }
 
--- "version 4: card count at 38, period at 40"
+-- version 4 has its "card count at 38" and its "period at 40"; the others have neither
 unfoldable pub periodOf : (version : ℕ) → List ℕ → ℕ
 periodOf version file = cond (eqb version 4) (be 4 file 40) 0
 
 unfoldable pub cardCount : (version : ℕ) → List ℕ → ℕ
 cardCount version file = cond (eqb version 4) (byte file 38) 0
 
--- versions 2 to 4: "u32 at 8 frames, 12 pools, 16 opening operations, 20 directory offset, 24 opening start, 28 frames start, 32
--- total size"
+-- versions 2 to 4: seven numbers of 4 bytes one after the other, from "8 frames, 12 pools, 16 opening operations" to "32 total size"
 unfoldable pub pooledHeader : (version : ℕ) → List ℕ → Header
 pooledHeader version file =
     record {

@@ -1,4 +1,4 @@
--- Lent memory after a call: what the call writes stands in front, and "lent bytes beyond stay".
+-- Lent memory after a call: what the call writes stands in front. "Lent bytes beyond an image or result stay."
 use mathlib.Core.List.{List, _++_}
 use lib.ListN.{length, drop}
 use Rattle.format.specs.Checked.{Checked, ok, refused}

@@ -111,8 +111,7 @@ abbrev pub ending : Bool → Listener → Listener
 ending true l = record { ended = l .ended ++ (l .current ∷ []); current = []; pcm = l .pcm }
 ending false l = l
 
--- "a record to target 0 or 1 is a register write and joins the current vsync's; one to target 2 puts its value at its address";
--- "a refused call changes nothing"
+-- a record to a core "joins the current vsync's" writes; "one to target 2 puts its value at its address"; "a refused call changes nothing"
 unfoldable pub heard : Listener → Checked Played → Listener
 heard l (refused number place) = l
 heard l (ok answer) =

@@ -10,7 +10,7 @@ use Rattle.format.specs.Stream.{Stream, read}
 unfoldable pub poolKind : List ℕ → (id : ℕ) → Checked ℕ
 poolKind file id = mapped (λ (s : Stream). getD (s .pools) id noPool .kind) (read file)
 
--- "the part of the lent file that is the payload itself, empty for an unknown pool or refused file"
+-- "the part of the lent file that is the payload itself"; it is empty for an unknown pool or a refused file
 unfoldable pub payloadIn : Checked Stream → (id : ℕ) → List ℕ
 payloadIn (ok s) id = getD (s .pools) id noPool .bytes
 payloadIn (refused number place) id = []

@@ -18,8 +18,8 @@ openingNext = record { part = partNumber Opening; place = 0; frame = 0 }
 abbrev pub closingNext : NextPart
 closingNext = record { part = partNumber Closing; place = 0; frame = 0 }
 
--- between vsyncs: the first one "plays opening and frame 1 together". "After the last frame, a repeating file plays frame 1 again
--- without the opening; another plays the closing writes"
+-- between vsyncs: the first one "plays opening and frame 1 together". Behind the last frame a repeating file "plays frame 1 again without the
+-- opening", and any other has the closing writes
 unfoldable pub nextPart : Header → Progress → NextPart
 nextPart header p =
     cond (not (p .initialized)) openingNext

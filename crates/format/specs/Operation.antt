@@ -1,5 +1,5 @@
--- Operations, and the records of version 1: "0 WRITE target, address, value; 1 FILL target, address, u32 length, value; 2 COPY target,
--- address, u16 pool, u32 source, u32 length".
+-- Operations, and the records of version 1. Behind opcode, target and address stand a WRITE's value, a FILL's "u32 length, value", or a COPY's
+-- "u16 pool, u32 source, u32 length".
 use Prim.Native.Nat.{ℕ, zero, suc, _+_, _*_, _-_, _%_}
 use mathlib.Core.Bool.{Bool, cond, not, _&&_, _||_}
 use mathlib.Core.List.{List, [], _∷_}
@@ -58,8 +58,8 @@ fieldsAt file width at (suc zero) =
 fieldsAt file width at (suc (suc n)) =
     Copy (byte file (at + 1)) (be width file (at + 2)) (be 2 file (at + 2 + width)) (be 4 file (at + 4 + width)) (be 4 file (at + 8 + width))
 
--- the remaining rules of a COPY (19): "source plus length within the pool", a pool of its target's kind, and "kind 1 only with
--- address, source and length multiples of 256"
+-- the remaining rules of a COPY (19): "source plus length within the pool", a pool of its target's kind, and of kind 1 only with "address,
+-- source and length multiples of 256"
 unfoldable pub copyWrong : Target → Pool → (address source size : ℕ) → Bool
 copyWrong target pool address source size =
     ltb (pool .size) (source + size)

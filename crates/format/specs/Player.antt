@@ -164,8 +164,8 @@ play state file room p Between =
 
 -- ONE CALL
 
--- "the length is not the recorded total size, the state's version or card count breaks 3 or 5, a place in the state exceeds the
--- file's length, a counter in it exceeds the count it runs up to"
+-- what 25 says of state and length alone: "the length is not the recorded total size", "the state's version or card count breaks 3 or 5", "a
+-- place in the state exceeds the file's length", "a counter in it exceeds the count it runs up to"
 unfoldable pub belongs : StreamPlayer → List ℕ → Checked (Unit {0})
 belongs state file = do
   let header = state .header

@@ -1,5 +1,5 @@
--- Pools: "u16 id equal to its index, kind, codec 0, u32 size, the same size again, u32 offset where the directory or the previous
--- payload ended", 16 bytes an entry, and the payloads one after the other behind the directory.
+-- Pools: 16 bytes an entry, with an id "equal to its index", kind, "codec 0", size, "the same size again", and the offset "where the directory
+-- or the previous payload ended"; the payloads stand one after the other behind the directory.
 use Prim.Native.Nat.{ℕ, zero, suc, _+_, _*_}
 use mathlib.Core.Bool.{Bool, true, cond, not, _||_}
 use mathlib.Core.List.{List, [], _∷_}
@@ -19,7 +19,7 @@ poolAt file directory id =
 unfoldable pub bankLimit : (version : ℕ) → ℕ
 bankLimit version = cond (eqb version 4) 0x2000000 (cond (eqb version 3) 0x400000 0)
 
--- a size that a kind may not have, or no such kind. "Kind 1, wave: 256. Kind 2, PCM: at most 1,048,576. Size is at least 1"
+-- a size that a kind may not have, or no such kind. "Kind 1, wave: 256." "Kind 2, PCM: at most 1,048,576." "Size is at least 1."
 unfoldable pub kindWrong : (version kind size : ℕ) → Bool
 kindWrong version kind size =
     cond (eqb kind 1) (not (eqb size 256))

@@ -35,7 +35,7 @@ unfoldable pub toCores : List Operation → List Operation
 toCores [] = []
 toCores (record′ ∷ records) = cond (eqb (targetNumber record′) 2) (toCores records) (record′ ∷ toCores records)
 
--- "opening PCM writes run 0, 1, 2 and so on" (22)
+-- the addresses of opening PCM writes "run 0, 1, 2 and so on" (22)
 unfoldable pub inOrder : (from : ℕ) → List Operation → Bool
 inOrder from [] = true
 inOrder from (record′ ∷ records) = eqb (address record′) from && inOrder (suc from) records
@@ -106,7 +106,7 @@ pcmPools (v ∷ vs) = record { kind = 2; bytes = v ∷ vs } ∷ []
 abbrev pub wavePool : List ℕ → Payload
 wavePool bytes = record { kind = 1; bytes = bytes }
 
--- "if PCM was written and less than 1,048,576 bytes, a FILL of the rest with 0x80", and "a COPY of all of it"
+-- where PCM was written: "a FILL of the rest with 0x80", if it is less than the whole memory, and "a COPY of all of it"
 abbrev pub pcmFill : (count : ℕ) → List Operation
 pcmFill zero = []
 pcmFill (suc n) = cond (ltb (suc n) pcmSize) (Fill 2 (suc n) (pcmSize - suc n) 0x80 ∷ []) []
@@ -115,8 +115,8 @@ abbrev pub pcmCopy : (count : ℕ) → List Operation
 pcmCopy zero = []
 pcmCopy (suc n) = Copy 2 0 0 0 (suc n) ∷ []
 
--- "Pools: opening PCM bytes if any, then each distinct wave. Opening: FILL, core records as WRITEs in order, COPY. Frame count and
--- repeat carry over"
+-- the pools are "opening PCM bytes if any, then each distinct wave"; the opening is the FILL, "core records as WRITEs in order" and the COPY;
+-- "Frame count and repeat carry over"
 unfoldable pub repacked : Stream → Stream
 repacked s =
     let pcm = map value (toPcm (s .opening)) in

@@ -6,7 +6,7 @@ use Prim.Native.Nat.{ℕ}
 abbrev pub recordSize : ℕ
 recordSize = 5
 
--- "48 bytes where byte 4 exists and is 4, 40 where it is 2 or 3, else 20"
+-- a header: 48 bytes where the version is 4, "40 where it is 2 or 3, else 20"
 abbrev pub masterHeaderSize : ℕ
 masterHeaderSize = 20
 

@@ -50,8 +50,8 @@ framesFrom setting file (suc count) at = do
 unfoldable pub openingLimit : Header → List ℕ → ℕ
 openingLimit header file = cond (eqb (header .version) 1) (length file) (header .«frame_start»)
 
--- "the frame count is 0, total size exceeds 0xE00000 or is not the file's length, the pool count exceeds 65,536, or the directory
--- offset is wrong" (8)
+-- rule 8: "The frame count is 0", "total size exceeds 0xE00000 or is not the file's length", "the pool count exceeds 65,536", or "the directory
+-- offset is wrong"
 unfoldable pub countsWrong : Header → (length′ : ℕ) → Bool
 countsWrong header length′ =
     eqb (header .«frame_count») 0
@@ -60,8 +60,8 @@ countsWrong header length′ =
     || ltb 65536 (header .«pool_count»)
     || not (eqb (header .«directory_offset») (headerSize (header .version) + header .«card_count» * cardSize))
 
--- "a pooled opening does not start where the payloads end, or the frames start before the opening or after the file's end" (12); the
--- payloads end at `end`. Of version 1 this says that its opening records pass the file's end
+-- rule 12: an opening "does not start where the payloads end", which is at `end`, or "the frames start before the opening or after the file's
+-- end". Of version 1 this says that its opening records pass the file's end
 unfoldable pub sectionsWrong : Header → (end length′ : ℕ) → Bool
 sectionsWrong header end length′ =
     not (eqb (header .«initial_start») end) || ltb (header .«frame_start») (header .«initial_start») || ltb length′ (header .«frame_start»)

@@ -15,7 +15,7 @@ slotTarget [] slot = Missing
 slotTarget (card ∷ cards) slot =
     cond (eqb (card .slot) slot) (Slot (card .«bulk_start») (card .«bulk_length»)) (slotTarget cards slot)
 
--- "0 and 1, the cores; 2, PCM; 3 in version 3, and 3 to 10 in version 4; 11 in version 4"
+-- what a number stands for: "0 and 1, the cores", 2 PCM memory, "3 in version 3" its bank, "3 to 10 in version 4" the slots, and "11 in version 4"
 unfoldable pub targetOf : (version : ℕ) → List CardRequirement → (target : ℕ) → Target
 targetOf version cards target =
     cond (ltb target 2) Core

@@ -69,7 +69,7 @@ silence core zero channel = []
 silence core (suc count) channel =
     write core (0x800 + 32 * channel + 3) 0 ∷ write core (0x800 + 32 * channel + 0x19) 0 ∷ silence core count (channel + 1)
 
--- the closing writes: "(11, 0x0C, 0) first if any operation of the file has target 11, then for core 0, 1 and channel 0 to 7"
+-- the closing writes: "(11, 0x0C, 0) first if any operation of the file has target 11", then the zeros "for core 0, 1 and channel 0 to 7"
 unfoldable pub closingWrites : (synth : Bool) → List WriteRecord
 closingWrites synth = cond synth (write 11 0x0C 0 ∷ []) [] ++ silence 0 8 0 ++ silence 1 8 0
 
@@ -80,8 +80,8 @@ closingCount synth = cond synth 33 32
 unfoldable pub closing : Stream → List WriteRecord
 closing s = closingWrites (usesSi22 s)
 
--- the writes of a vsync, counted from 0. "The first plays opening and frame 1 together. After the last frame, a repeating file plays
--- frame 1 again without the opening; another plays the closing writes, once, then nothing"
+-- the writes of a vsync, counted from 0. "The first plays opening and frame 1 together." Behind the last frame a repeating file "plays frame 1
+-- again without the opening"; any other has the closing writes, "once, then nothing"
 unfoldable pub vsync : Stream → ℕ → List WriteRecord
 vsync s zero = openingWrites s ++ frameWrites s 0
 vsync s (suc k) =

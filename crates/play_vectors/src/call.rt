@@ -67,7 +67,7 @@ fn compare(file: &[u8], state: StreamPlayer, stored: &[u8]) -> Replayed {
 }
 
 // The buffer begins with the file. The changed byte stays changed until a later call puts the old one back.
-pub fn replay(buffer: &mut [u8], state: StreamPlayer, stored: &[u8]) -> Replayed {
+pub(crate) fn replay(buffer: &mut [u8], state: StreamPlayer, stored: &[u8]) -> Replayed {
     let place = big_endian::read_u16(stored, 4) as usize;
     big_endian::put_u8(buffer, place, big_endian::byte_at(stored, 6));
     let length = big_endian::read_u16(stored, 0) as usize;

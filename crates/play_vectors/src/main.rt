@@ -44,11 +44,12 @@ fn replay_next(input: i32, counts: Counts) -> Counts
     requires { ⌜ 0 < counts .left ⌝ }
     ensures { λ r. ⌜ r .left < counts .left ⌝ }
 {
-    let length = vectors::next_number(input);
+    let mut bytes = [0u8; 4];
+    let length = vectors::next_number(input, &mut bytes);
     if length == vectors::END {
         return vectors::ended(counts);
     }
-    let calls = vectors::next_number(input);
+    let calls = vectors::next_number(input, &mut bytes);
     let same = replay_script(input, length as usize, calls);
     let different = std::num::wrapping_sub_u32(calls, same);
     vectors::add(counts, same as u64, different as u64)

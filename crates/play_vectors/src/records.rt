@@ -48,7 +48,7 @@ fn mix_segment(sum: u32, at: usize, file: &[u8], segment: Segment) -> u32 {
 }
 
 // The number of all records of a call that takes so many. Each segment leaves fewer operations or closing writes to do.
-pub fn mix_call(file: &[u8], state: StreamPlayer, count: usize, room: usize) -> u32 {
+pub(crate) fn mix_call(file: &[u8], state: StreamPlayer, count: usize, room: usize) -> u32 {
     let mut mixed = BASIS;
     let mut place = first_place(file, state, count, room);
     let mut turns = place.left;

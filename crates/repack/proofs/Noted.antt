@@ -20,12 +20,12 @@ use Rattle.master.proofs.Result.{all-next, size-frame}
 use Rattle.master.proofs.Uses.{all-uses-next}
 use Rattle.wave_table.specs.Table.{wavesIn, Added}
 use Rattle.format.proofs.Known.{added-place, added-has, added-keeps-place, added-keeps}
-use Rattle.repack.specs.Measured.{Noted, MeasuredFrame}
+use Rattle.repack.specs.Measured.{Notes, notes, notesWith, notesOver, Noted, MeasuredFrame}
 
 -- ---- a use
 
 module _ {file places spots numbers : List ℕ} {waves uses : ℕ} (n : Noted file places spots numbers waves uses) where
-  module _ {at : ℕ} {heads′ next′ places′ : List ℕ} {waves′ number : ℕ} (a : Added file places waves at heads′ next′ places′ waves′ number) (room : uses < 11468) (low : number ≤ 11468) where
+  module _ {at : ℕ} {heads next heads′ next′ places′ : List ℕ} {waves′ number : ℕ} (a : Added file heads next places waves at heads′ next′ places′ waves′ number) (room : uses < 11468) (low : number ≤ 11468) where
     pub noted-more : Noted file places′ (set spots uses at) (set numbers uses number) waves′ (uses + 1)
     noted-more =
         let known = wavesIn file places waves in
@@ -57,6 +57,21 @@ module _ {file places spots numbers : List ℕ} {waves uses : ℕ} (n : Noted fi
   taken-more at room rest =
       rw (add-one uses, take-suc-set spots uses at (omega (arith, n .spots-size)), append-assoc)
 
+-- all that is lent, with one use more
+pub notes-more : {file heads next places heads′ next′ places′ spots′ numbers′ : List ℕ} {waves at waves′ number : ℕ} (spots numbers : List ℕ) (uses : ℕ)
+    → Added file heads next places waves at heads′ next′ places′ waves′ number → spots′ ≡ set spots uses at → numbers′ ≡ set numbers uses number → (rest : List ℕ)
+    → notesOver file (notes heads next places waves spots numbers uses) (at ∷ rest) ≡ notesOver file (notes heads′ next′ places′ waves′ spots′ numbers′ (uses + 1)) rest
+unfolding notesOver notesWith
+notes-more {file} spots numbers uses a s n rest =
+    ap (λ (m : Notes). notesOver file m rest)
+    (λ i. record { table = sym (a .lists-are) i; spots = sym s i; numbers = (ap (set numbers uses) (sym (a .number-is)) ∙ sym n) i; uses = uses + 1 })
+
+-- and over uses that follow others
+pub notes-append : (file : List ℕ) (m : Notes) (here rest : List ℕ) → notesOver file m (here ++ rest) ≡ notesOver file (notesOver file m here) rest
+unfolding notesOver
+notes-append file m [] rest = refl
+notes-append file m (at ∷ here) rest = notes-append file (notesWith file m at) here rest
+
 -- nothing is noted yet
 zeros : (n k : ℕ) → _≡_ {A = ℕ} (getD (replicate n 0) k 0) 0
 zeros zero k = refl
@@ -76,6 +91,14 @@ none-noted file places =
     }
 
 -- ---- a frame that was measured
+
+-- all that is lent: behind the first of so many frames, the others note the rest
+pub notes-onward : (file : List ℕ) (left at records place : ℕ) (m m′ : Notes) → 0 < left → be 2 file at ≡ records → behindFrame file at ≡ place
+    → m′ ≡ notesOver file m (usesAt file records (at + 2)) → notesOver file m (allUses file left at) ≡ notesOver file m′ (allUses file (left - 1) place)
+notes-onward file left at records place m m′ h e p frame =
+    ap (notesOver file m) (all-uses-next file left at h)
+    ∙ notes-append file m (usesAt file (be 2 file at) (at + 2)) (allUses file (left - 1) (behindFrame file at))
+    ∙ rw (p, e, frame)
 
 -- so many frames, of which the first was measured, and the others from a place on
 pub record Onward (file : List ℕ) (left at waves uses : ℕ) (places spots places′ spots′ : List ℕ) (waves′ uses′ size place : ℕ) : Type 0 where

@@ -1,15 +1,44 @@
 -- What is known of a master that was measured: its waves, where they are used, and the size of its frames.
 use Prim.Native.Nat.{ℕ, _+_, _*_, _≤_, _<_}
 use mathlib.Core.Bool.{true}
-use mathlib.Core.List.{List, [], _++_}
+use mathlib.Core.List.{List, [], _∷_, _++_}
 use mathlib.Core.Path.{_≡_}
-use lib.ListN.{length, getD, take}
+use lib.ListN.{length, getD, take, set}
 use Rattle.format.specs.Repack.{isKnown, placeOf}
 use Rattle.format.specs.Size.{recordSize, waveRecordsSize}
 use Rattle.master.specs.Places.{waveAt}
 use Rattle.master.specs.Result.{pieceBytes, frameWaves, frameBytes, allWaves}
 use Rattle.master.specs.Uses.{usesAt, allUses}
-use Rattle.wave_table.specs.Table.{wavesIn, Table}
+use Rattle.wave_table.specs.Table.{wavesIn, Table, Lists, lists, listsWith}
+
+-- ---- all that is lent
+
+-- the table of the waves, and the lists of their uses, all of each
+pub record Notes : Type 0 where
+  pub table : Lists
+  pub spots : List ℕ
+  pub numbers : List ℕ
+  pub uses : ℕ
+
+abbrev pub notes : (heads next places : List ℕ) → (waves : ℕ) → (spots numbers : List ℕ) → (uses : ℕ) → Notes
+notes heads next places waves spots numbers uses = record { table = lists heads next places waves; spots = spots; numbers = numbers; uses = uses }
+
+-- with the use at a place: its wave in the table, and behind the uses that are noted its place and its wave's number
+unfoldable pub notesWith : (file : List ℕ) → Notes → (at : ℕ) → Notes
+notesWith file n at =
+    record {
+      table = listsWith file (n .table) at;
+      spots = set (n .spots) (n .uses) at;
+      numbers = set (n .numbers) (n .uses) (placeOf (wavesIn file (n .table .places) (n .table .count)) (waveAt file at));
+      uses = n .uses + 1;
+    }
+
+-- with uses one after the other
+unfoldable pub notesOver : (file : List ℕ) → Notes → List ℕ → Notes
+notesOver file n [] = n
+notesOver file n (at ∷ rest) = notesOver file (notesWith file n at) rest
+
+-- ---- what follows for the waves and their uses
 
 -- the first so many uses are noted, each with the number of its wave; behind them no place is noted
 pub record Noted (file places spots numbers : List ℕ) (waves uses : ℕ) : Type 0 where

@@ -15,7 +15,8 @@ ghost use Prim.Native.Nat.{_+_, _*_, _≤_, _<_};
 ghost use lib.ListN.{length, set};
 ghost use Rattle.master.specs.Places.{framesEnd};
 ghost use Rattle.wave_table.specs.Table.{Table};
-ghost use Rattle.repack.specs.Measured.{Noted, MeasuredFrame, Measured};
+ghost use Rattle.master.specs.Uses.{usesAt, allUses};
+ghost use Rattle.repack.specs.Measured.{notes, notesOver, Noted, MeasuredFrame, Measured};
 ghost use Rattle.format.specs.Size.{recordSize, waveRecordsSize, fileLimit};
 
 // One more than the waves that a file can use: behind the last place that is noted stands a 0.
@@ -59,7 +60,10 @@ fn measure_frame(
     requires { ⌜ Table (now file) (now heads) (now next) (now places) known × Noted (now file) (now places) (now spots) (now numbers) known noted
         × (start + count * recordSize ≤ length (now file)) × (known * waveRecordsSize ≤ start) × (noted * waveRecordsSize ≤ start) × (length (now file) ≤ fileLimit) ⌝ }
     ensures { λ r. ⌜ MeasuredFrame (now (file .entry)) start count known noted (now (places .entry)) (now (spots .entry))
-        (now (heads .exit)) (now (next .exit)) (now (places .exit)) (now (spots .exit)) (now (numbers .exit)) (r .waves) (r .uses) (r .size) ⌝ }
+        (now (heads .exit)) (now (next .exit)) (now (places .exit)) (now (spots .exit)) (now (numbers .exit)) (r .waves) (r .uses) (r .size)
+        × (notes (now (heads .exit)) (now (next .exit)) (now (places .exit)) (r .waves) (now (spots .exit)) (now (numbers .exit)) (r .uses)
+        ≡ notesOver (now (file .entry)) (notes (now (heads .entry)) (now (next .entry)) (now (places .entry)) known (now (spots .entry)) (now (numbers .entry)) noted)
+        (usesAt (now (file .entry)) count start)) ⌝ }
 {
     let write = operation_size(WIDTH, 0);
     let copy = operation_size(WIDTH, 2);
@@ -98,7 +102,10 @@ pub fn measure_frames(
     numbers: &mut [u16; MOST],
 ) -> Measure
     requires { ⌜ Table (now file) (now heads) (now next) (now places) 0 × Noted (now file) (now places) (now spots) (now numbers) 0 0 × (framesEnd (now file) count start ≤ length (now file)) × (length (now file) ≤ fileLimit) ⌝ }
-    ensures { λ r. ⌜ Measured (now (file .entry)) start count (now (places .exit)) (now (spots .exit)) (now (numbers .exit)) (r .waves) (r .uses) (r .size) ⌝ }
+    ensures { λ r. ⌜ Measured (now (file .entry)) start count (now (places .exit)) (now (spots .exit)) (now (numbers .exit)) (r .waves) (r .uses) (r .size)
+        × (notes (now (heads .exit)) (now (next .exit)) (now (places .exit)) (r .waves) (now (spots .exit)) (now (numbers .exit)) (r .uses)
+        ≡ notesOver (now (file .entry)) (notes (now (heads .entry)) (now (next .entry)) (now (places .entry)) 0 (now (spots .entry)) (now (numbers .entry)) 0)
+        (allUses (now (file .entry)) count start)) ⌝ }
 {
     let mut at = start;
     let mut left = count;

@@ -1,2 +1,3 @@
 -- What the contracts of `vectors` cite.
 pub mod Added
+pub mod Front

@@ -6,7 +6,9 @@ ghost use mathlib.Core.Bool.{not};
 ghost use Prim.Native.Nat.{_+_, _*_, _%_, _^_, _<_};
 ghost use lib.ListN.{take};
 ghost use mir.Val.{boolByte};
+ghost use Rattle.format.specs.Bytes.{be};
 ghost use Rattle.vectors.specs.Added.{Added};
+ghost use Rattle.vectors.specs.Front.{ReadFront};
 
 // The number that ends a list.
 pub const END: u32 = 0xFFFFFFFF;
@@ -70,14 +72,18 @@ fn print_count(word: &[u8], count: u64) {
     io::write_all(STDOUT_FILENO, b"\n");
 }
 
-// Writes the two counts, a line each.
-pub fn print(counts: Counts) {
+// Writes the two counts, a line each, and returns nothing: no contract can say what is written.
+pub fn print(counts: Counts)
+    ensures { λ r. ⌜ r ≡ tt ⌝ }
+{
     print_count(b"same", counts.same);
     print_count(b"different", counts.different);
 }
 
 // Reads so many bytes to the front of a buffer; false where it is too short, or so many are not left.
-pub fn read_front(input: i32, buffer: &mut [u8], size: usize) -> bool {
+pub fn read_front(input: i32, buffer: &mut [u8], size: usize) -> bool
+    ensures { λ r. ⌜ ReadFront size (now (buffer .entry)) (now (buffer .exit)) r ⌝ }
+{
     if buffer.len() < size {
         return false;
     }
@@ -94,13 +100,14 @@ pub fn front(buffer: &[u8], size: usize) -> &[u8]
     &buffer[..size]
 }
 
-// Four bytes of the input as a number; END where they are not there.
-pub fn next_number(input: i32) -> u32 {
-    let mut bytes = [0u8; 4];
-    if !read_front(input, &mut bytes, 4) {
-        return END;
+// The next number of the input, which the lent bytes then hold; END where its four bytes are not there.
+pub fn next_number(input: i32, bytes: &mut [u8; 4]) -> u32
+    ensures { λ r. ⌜ r ≡ be 4 (now (bytes .exit)) 0 ⌝ }
+{
+    if !read_front(input, bytes, 4) {
+        big_endian::put_u32(bytes, 0, END);
     }
-    big_endian::read_u32(&bytes, 0)
+    big_endian::read_u32(bytes, 0)
 }
 
 // The number of a list of values with one more: 33 times the number and the value, of which the low 32 bits count.

@@ -19,7 +19,7 @@ use Rattle.format.proofs.Known.{known-snoc, known-place, place-kept, place-new,
 use Rattle.master.specs.Places.{waveAt}
 use Rattle.wave_hash.specs.Hash.{bucketAt}
 use Rattle.wave_hash.proofs.Hash.{same-bucket, bucket-below}
-use Rattle.wave_table.specs.Table.{wavesIn, latest, found, Chain, Table, Added}
+use Rattle.wave_table.specs.Table.{wavesIn, latest, found, Chain, Table, listsWith, Added}
 
 -- ---- a chain
 
@@ -255,23 +255,23 @@ module _ (file heads next places : List ℕ) (count at : ℕ) (table : Table fil
   known-by-place b e =
       rw (waves-count file places count (omega (arith, table .few, table .places-size))) at (place-known (wavesIn file places count) (waveAt file at) b e)
 
-  pub added-known : (number : ℕ) → number ≡ placeOf (wavesIn file places count) (waveAt file at) → number < count → Added file places count at heads next places count number
-  unfolding added
+  pub added-known : (number : ℕ) → number ≡ placeOf (wavesIn file places count) (waveAt file at) → number < count → Added file heads next places count at heads next places count number
+  unfolding added listsWith
   added-known number is less = go (isKnown (wavesIn file places count) (waveAt file at)) refl
     where
-      go : (b : Bool) → isKnown (wavesIn file places count) (waveAt file at) ≡ b → Added file places count at heads next places count number
-      go true e = record { table = table; waves = rw e; more = omega arith; number-is = is }
+      go : (b : Bool) → isKnown (wavesIn file places count) (waveAt file at) ≡ b → Added file heads next places count at heads next places count number
+      go true e = record { lists-are = rw e; number-is = is; table = table; waves = rw e; more = omega arith }
       go false e = absurd (true≢false (sym (lt-ltb _ _ (rw is at less)) ∙ known-by-place false e))
 
   pub added-new : (bucket number : ℕ) → bucket ≡ bucketAt file at → number ≡ placeOf (wavesIn file places count) (waveAt file at) → count ≤ number → count < 11468 → at + 1280 ≤ length file
-      → Added file places count at (set heads bucket (count + 1)) (set next count (getD heads bucket 0)) (set places count at) (count + 1) number
-  unfolding added
+      → Added file heads next places count at (set heads bucket (count + 1)) (set next count (getD heads bucket 0)) (set places count at) (count + 1) number
+  unfolding added listsWith
   added-new bucket number is numbered none more here = go (isKnown (wavesIn file places count) (waveAt file at)) refl
     where
       go : (b : Bool) → isKnown (wavesIn file places count) (waveAt file at) ≡ b
-          → Added file places count at (set heads bucket (count + 1)) (set next count (getD heads bucket 0)) (set places count at) (count + 1) number
+          → Added file heads next places count at (set heads bucket (count + 1)) (set next count (getD heads bucket 0)) (set places count at) (count + 1) number
       go true e = absurd (false≢true (sym (le-ltb _ _ (rw numbered at none)) ∙ known-by-place true e))
-      go false e = record { table = rw is (added-table more here e); waves = rw e (added-waves more); more = omega arith; number-is = numbered }
+      go false e = record { lists-are = rw (e, is); number-is = numbered; table = rw is (added-table more here e); waves = rw e (added-waves more); more = omega arith }
 
 -- the empty table
 pub no-waves : (file : List ℕ) → Table file (replicate 16384 0) (replicate 11468 0) (replicate 11468 0) 0

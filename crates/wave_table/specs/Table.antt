@@ -4,7 +4,7 @@ use mathlib.Core.Bool.{false, cond}
 use mathlib.Core.List.{List, map}
 use mathlib.Core.Path.{_≡_}
 use lib.Dec.{eqb}
-use lib.ListN.{length, getD, take}
+use lib.ListN.{length, getD, take, set}
 use Rattle.format.specs.Bytes.{sameBytes}
 use Rattle.format.specs.Repack.{isKnown, added, placeOf}
 use Rattle.format.specs.Size.{waveRecordsSize}
@@ -42,9 +42,28 @@ pub record Chain (file next places : List ℕ) (bucket first : ℕ) : Type 0 whe
   pub next-are : (k : ℕ) → k < first → getD next k 0 ≡ latest file places (bucketAt file (getD places k 0)) k
   pub inside : (k : ℕ) → k < first → getD places k 0 + waveRecordsSize ≤ length file
 
--- the table after the wave at a place was added, and the wave's number
-pub record Added (file places : List ℕ) (count at : ℕ) (heads′ next′ places′ : List ℕ) (count′ number : ℕ) : Type 0 where
+-- the lent lists of a table, all of each, and how many waves are known
+pub record Lists : Type 0 where
+  pub heads : List ℕ
+  pub next : List ℕ
+  pub places : List ℕ
+  pub count : ℕ
+
+abbrev pub lists : (heads next places : List ℕ) → (count : ℕ) → Lists
+lists heads next places count = record { heads = heads; next = next; places = places; count = count }
+
+-- with the wave at a place: a known one changes nothing, and any other stands behind the known ones, at the head of its bucket's chain
+unfoldable pub listsWith : (file : List ℕ) → Lists → (at : ℕ) → Lists
+listsWith file t at =
+    let bucket = bucketAt file at in
+    cond (isKnown (wavesIn file (t .places) (t .count)) (waveAt file at)) t
+    (lists (set (t .heads) bucket (t .count + 1)) (set (t .next) (t .count) (getD (t .heads) bucket 0)) (set (t .places) (t .count) at) (t .count + 1))
+
+-- the table after the wave at a place was added, and the wave's number; `lists-are` says all of the lent lists, the rest what follows for the
+-- waves
+pub record Added (file heads next places : List ℕ) (count at : ℕ) (heads′ next′ places′ : List ℕ) (count′ number : ℕ) : Type 0 where
+  pub lists-are : lists heads′ next′ places′ count′ ≡ listsWith file (lists heads next places count) at
+  pub number-is : number ≡ placeOf (wavesIn file places count) (waveAt file at)
   pub table : Table file heads′ next′ places′ count′
   pub waves : wavesIn file places′ count′ ≡ added (wavesIn file places count) (waveAt file at)
   pub more : count′ ≤ count + 1
-  pub number-is : number ≡ placeOf (wavesIn file places count) (waveAt file at)

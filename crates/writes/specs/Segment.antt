@@ -32,6 +32,6 @@ fitting room at size segment = cond (tooLong room at size segment) 0 (segment .c
 abbrev pub inserted : {A : Type 0} → (at : ℕ) → List A → List A → List A
 inserted at new old = take at old ++ new ++ drop (at + length new) old
 
--- "no other record is touched"
+-- no other record is touched
 unfoldable pub segmentStored : List ℕ → Segment → (at : ℕ) → List WriteRecord → List WriteRecord
 segmentStored file segment at run = inserted at (recordsOf file segment (fitting (length run) at (length file) segment)) run

@@ -15,8 +15,8 @@ use Rattle.master.proofs.Result.{waves-none, waves-wave, waves-single, size-non
 use Rattle.master.proofs.Uses.{uses-none, uses-wave, uses-single}
 use Rattle.wave_table.specs.Table.{wavesIn, Table}
 use Rattle.wave_table.proofs.Table.{number-few}
-use Rattle.repack.specs.Measured.{Noted}
-use Rattle.repack.proofs.Noted.{noted-more, taken-more}
+use Rattle.repack.specs.Measured.{notes, notesOver, Noted}
+use Rattle.repack.proofs.Noted.{noted-more, taken-more, notes-more}
 use Rattle.repack.proofs.measure_frame.Statement.{statement}
 use Rattle.repack.proofs.measure_frame.Tie as tie
 
@@ -31,6 +31,7 @@ Inv-loop file start count known noted heads₀ next₀ places₀ spots₀ number
     × Noted file places spots numbers waves uses
     × (take noted spots₀ ++ usesAt file count start ≡ take uses spots ++ usesAt file left at)
     × (uses * 1280 ≤ at)
+    × (notesOver file (notes heads₀ next₀ places₀ known spots₀ numbers₀ noted) (usesAt file count start) ≡ notesOver file (notes heads next places waves spots numbers uses) (usesAt file left at))
 
 abbrev μ-loop : tie.MeasureT-loop
 μ-loop file start count known noted heads₀ next₀ places₀ spots₀ numbers₀ write copy at₀ left₀ waves₀ uses₀ size₀ heads next places spots numbers at left waves uses size = left
@@ -50,7 +51,7 @@ few c =
     omega (arith, c .add-wave .ensures .number-is, number-few (s .args .file .now) (l .heads) (l .next) (l .places) (l .waves) (l .at) (l .inv .1))
 
 loop-holds : tie.Need-loop-holds Inv-loop μ-loop
-loop-holds c = let p = c .before .before .before .pre in (refl, p .0, refl, omega arith, omega arith, omega arith, p .1, refl, p .4)
+loop-holds c = let p = c .before .before .before .pre in (refl, p .0, refl, omega arith, omega arith, omega arith, p .1, refl, p .4, refl)
 
 add-wave-requires : tie.Need-add-wave-requires Inv-loop μ-loop
 add-wave-requires c κs =
@@ -100,6 +101,7 @@ loop-again c =
       rw (noting .0, noting .1) (noted-more (l .inv .6) more (omega arith) (few (t))),
       l .inv .7 ∙ rw (uses-wave file (l .left) (l .at) wave, noting .0) (taken-more (l .inv .6) (l .at) (omega arith) (usesAt file (l .left - 256) (l .at + 1280))),
       omega arith,
+      l .inv .9 ∙ rw (uses-wave file (l .left) (l .at) wave) (notes-more (l .spots) (l .numbers) (l .uses) more (noting .0) (noting .1) (usesAt file (l .left - 256) (l .at + 1280))),
     )
 
 add-at-2 : tie.Need-add-at-2 Inv-loop μ-loop
@@ -129,23 +131,27 @@ loop-again-2 c =
       l .inv .6,
       l .inv .7 ∙ ap (λ (u : List ℕ). take (l .uses) (l .spots) ++ u) (uses-single file (l .left) (l .at) some single),
       omega arith,
+      l .inv .9 ∙ ap (notesOver file (notes (l .heads) (l .next) (l .places) (l .waves) (l .spots) (l .numbers) (l .uses))) (uses-single file (l .left) (l .at) some single),
     )
 
 returns : tie.Need-returns Inv-loop μ-loop
+unfolding notesOver
 returns c =
     let l = c .before .loop in
     let file = c .before .before .before .before .before .args .file .now in
-    let none : l .left ≡ 0 = omega arith in
-    record {
-      table = l .inv .1;
-      noting = l .inv .6;
-      waves-are = l .inv .2 ∙ rw (none, waves-none);
-      uses-are = l .inv .7 ∙ rw (none, uses-none, append-nil);
-      size-is = l .inv .3 ∙ rw (none, size-none) (omega arith);
-      few = omega arith;
-      few-uses = omega arith;
-      small = omega arith;
-    }
+    let none : l .left ≡ 0 = omega arith in (
+      record {
+        table = l .inv .1;
+        noting = l .inv .6;
+        waves-are = l .inv .2 ∙ rw (none, waves-none);
+        uses-are = l .inv .7 ∙ rw (none, uses-none, append-nil);
+        size-is = l .inv .3 ∙ rw (none, size-none) (omega arith);
+        few = omega arith;
+        few-uses = omega arith;
+        small = omega arith;
+      },
+      sym (l .inv .9 ∙ rw (none, uses-none)),
+    )
 
 pub measure-frame-spec : {M : Type 1} → statement M
 measure-frame-spec =

@@ -12,8 +12,8 @@ use Rattle.master.proofs.Master.{frames-rise, frame-within}
 use Rattle.master.specs.Uses.{allUses}
 use Rattle.master.proofs.Result.{all-none, frames-none}
 use Rattle.master.proofs.Uses.{all-uses-none}
-use Rattle.repack.specs.Measured.{Noted}
-use Rattle.repack.proofs.Noted.{onward}
+use Rattle.repack.specs.Measured.{notes, notesOver, Noted}
+use Rattle.repack.proofs.Noted.{onward, notes-onward}
 use Rattle.repack.proofs.measure_frames.Statement.{statement}
 use Rattle.repack.proofs.measure_frames.Tie as tie
 
@@ -28,6 +28,7 @@ Inv-loop file start count heads₀ next₀ places₀ spots₀ numbers₀ at₀ l
     × Noted file places spots numbers waves uses
     × (allUses file count start ≡ take uses spots ++ allUses file left at)
     × (uses * 1280 ≤ at)
+    × (notesOver file (notes heads₀ next₀ places₀ 0 spots₀ numbers₀ 0) (allUses file count start) ≡ notesOver file (notes heads next places waves spots numbers uses) (allUses file left at))
 
 abbrev μ-loop : tie.MeasureT-loop
 μ-loop file start count heads₀ next₀ places₀ spots₀ numbers₀ at₀ left₀ waves₀ uses₀ size₀ heads next places spots numbers at left waves uses size = left
@@ -45,7 +46,7 @@ inside c =
     omega (arith, frame-within (s .args .file .now) (l .left) (l .at) (u .loop-test .taken), t .read-u16 .ensures, l .inv .0)
 
 loop-holds : tie.Need-loop-holds Inv-loop μ-loop
-loop-holds c = (c .before .pre .2, c .before .pre .0, refl, omega arith, omega arith, omega arith, c .before .pre .1, refl, omega arith)
+loop-holds c = (c .before .pre .2, c .before .pre .0, refl, omega arith, omega arith, omega arith, c .before .pre .1, refl, omega arith, refl)
 
 add-measure-frame : tie.Need-add-measure-frame Inv-loop μ-loop
 add-measure-frame c =
@@ -63,10 +64,10 @@ measure-frame-requires c κs =
     (l .inv .1, l .inv .6, omega (arith, within, t .read-u16 .ensures, l .inv .0), omega arith, omega arith, s .pre .3)
 
 add-size : tie.Need-add-size Inv-loop μ-loop
-add-size c = omega (arith, c .before .measure-frame .ensures .small, inside c)
+add-size c = omega (arith, c .before .measure-frame .ensures .0 .small, inside c)
 
 add-size-2 : tie.Need-add-size-2 Inv-loop μ-loop
-add-size-2 c = omega (arith, c .before .measure-frame .ensures .small, inside c)
+add-size-2 c = omega (arith, c .before .measure-frame .ensures .0 .small, inside c)
 
 mul-at : tie.Need-mul-at Inv-loop μ-loop
 mul-at c = omega (arith, inside c)
@@ -90,7 +91,7 @@ loop-again c =
     let p = u .before in
     let s = p .before .before in
     let l = p .loop in
-    let frame = c .before .measure-frame .ensures in
+    let frame = c .before .measure-frame .ensures .0 in
     let file = s .args .file .now in
     let place = l .at + (2 + t .read-u16 .result * 5) in
     let behind : behindFrame file (l .at) ≡ place = omega (arith, t .read-u16 .ensures) in
@@ -104,23 +105,27 @@ loop-again c =
       frame .noting,
       l .inv .7 ∙ on .uses-on,
       omega (arith, frame .few-uses),
+      l .inv .9 ∙ notes-onward file (l .left) (l .at) _ place _ _ (u .loop-test .taken) (sym (t .read-u16 .ensures)) behind (c .before .measure-frame .ensures .1),
     )
 
 returns : tie.Need-returns Inv-loop μ-loop
+unfolding notesOver
 returns c =
     let l = c .before .loop in
     let file = c .before .before .before .args .file .now in
-    let none : l .left ≡ 0 = omega arith in
-    record {
-      noting = l .inv .6;
-      waves-are = l .inv .2 ∙ rw (none, all-none);
-      size-is = l .inv .3 ∙ rw (none, frames-none) (omega arith);
-      small = omega (arith, frames-rise file (l .left) (l .at));
-      uses-are = l .inv .7 ∙ rw (none, all-uses-none, append-nil);
-      few = l .inv .1 .few;
-      places-size = l .inv .1 .places-size;
-      inside = l .inv .1 .inside;
-    }
+    let none : l .left ≡ 0 = omega arith in (
+      record {
+        noting = l .inv .6;
+        waves-are = l .inv .2 ∙ rw (none, all-none);
+        size-is = l .inv .3 ∙ rw (none, frames-none) (omega arith);
+        small = omega (arith, frames-rise file (l .left) (l .at));
+        uses-are = l .inv .7 ∙ rw (none, all-uses-none, append-nil);
+        few = l .inv .1 .few;
+        places-size = l .inv .1 .places-size;
+        inside = l .inv .1 .inside;
+      },
+      sym (l .inv .9 ∙ rw (none, all-uses-none)),
+    )
 
 pub measure-frames-spec : {M : Type 1} → statement M
 measure-frames-spec =

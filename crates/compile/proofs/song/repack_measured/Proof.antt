@@ -23,13 +23,13 @@ measure-frames-requires c κs =
 
 lay-out-requires : tie.Need-lay-out-requires
 lay-out-requires c κs =
-    let known = known-of (c .before .before .before .before .before .before .before .before .before .before .pre) (c .measure-frames .ensures) in
+    let known = known-of (c .before .before .before .before .before .before .before .before .before .before .pre) (c .measure-frames .ensures .0) in
     (pcm-few known, omega (arith, known .opening-fits, known .small), known .measured .few, known .measured .small)
 
 returns : tie.Need-returns
 returns c =
     let s = c .before .before .before .before .before .before .before .before .before .before .before .before .before .before in
-    let total = total-is (known-of (s .pre) (c .before .before .before .before .measure-frames .ensures)) (c .before .before .before .lay-out .ensures) in
+    let total = total-is (known-of (s .pre) (c .before .before .before .before .measure-frames .ensures .0)) (c .before .before .before .lay-out .ensures) in
     refuses (s .args .file .now) (s .args .buffer .now) 23 0 (c .refused .result) (long-result (s .pre) _ (omega (arith, total, c .before .if1 .taken))) (c .refused .ensures)
 
 returns-2 : tie.Need-returns-2
@@ -38,7 +38,7 @@ returns-2 c =
     let u = t .before in
     let v = u .before .before .before .before .before .before .before .before .before .before in
     let s = v in
-    let total = total-is (known-of (s .pre) (u .measure-frames .ensures)) (t .lay-out .ensures) in
+    let total = total-is (known-of (s .pre) (u .measure-frames .ensures .0)) (t .lay-out .ensures) in
     refuses (s .args .file .now) (s .args .buffer .now) 24 0 (c .refused2 .result) (short-room (s .pre) _ (omega (arith, total, c .before .before .before .if1 .left)) (omega (arith, total, c .before .if2 .taken))) (c .refused2 .ensures)
 
 write-master-requires : tie.Need-write-master-requires
@@ -48,7 +48,7 @@ write-master-requires c κs =
     let v = u .before .before in
     let x = v .before in
     let s = x .before .before .before .before .before .before .before .before .before .before in
-    (known-of (s .pre) (x .measure-frames .ensures), v .lay-out .ensures, u .if1 .left, t .if2 .left)
+    (known-of (s .pre) (x .measure-frames .ensures .0), v .lay-out .ensures, u .if1 .left, t .if2 .left)
 
 returns-3 : tie.Need-returns-3
 returns-3 c =
@@ -58,7 +58,7 @@ returns-3 c =
     let x = v .before in
     let y = x .before .before .before .before .before .before .before .before .before .before in
     let s = y in
-    let total = total-is (known-of (s .pre) (x .measure-frames .ensures)) (v .lay-out .ensures) in
+    let total = total-is (known-of (s .pre) (x .measure-frames .ensures .0)) (v .lay-out .ensures) in
     writes (s .args .file .now) (s .args .buffer .now) _ _ _ (the-result (s .pre) _ (omega (arith, total, u .if1 .left)) (omega (arith, total, t .if2 .left))) total (t .if2 .left) (c .before .before .write-master .ensures)
 
 pub repack-measured-spec : {M : Type 1} → statement M
