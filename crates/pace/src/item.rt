@@ -31,7 +31,7 @@ fn refused_item(waves: [WaveSource; 16]) -> Started
 }
 
 // The operation at the cursor, of which so many writes are made.
-pub fn start(
+pub(crate) fn start(
     file: &[u8],
     state: StreamPlayer,
     limit: usize,

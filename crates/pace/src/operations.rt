@@ -5,6 +5,7 @@ use format::StreamPlayer;
 use next_part::operations_left;
 use state::placed;
 ghost use mathlib.Core.Path.{_≡_};
+ghost use mathlib.Core.Bool.{true};
 ghost use Prim.Native.Nat.{_≤_};
 ghost use Rattle.play_laws.specs.Pace.{paced};
 ghost use Rattle.format.specs.Player.{operationsLeft, as25};
@@ -35,7 +36,7 @@ pub fn pace(
     room: usize,
     progress: Progress,
 ) -> Paced
-    ensures { λ r. ⌜ (paceOf r ≡ as25 (paced state (now (file .entry)) limit (operationsLeft progress) room progress)) × (r .room ≤ room) ⌝ }
+    ensures { λ r. ⌜ (paceOf r ≡ as25 (paced state (now (file .entry)) limit (operationsLeft progress) room progress)) × (r .room ≤ room) × (r .refused ≡ true → (r .room ≡ 0) × (r .progress ≡ progress)) ⌝ }
 {
     let mut waves = progress.wave_sources;
     let mut cursor = progress.cursor;

@@ -33,7 +33,7 @@ fn ended(taken: Taken) -> Taken
     }
 }
 
-pub fn plan_frame(file: &[u8], state: StreamPlayer, room: usize, progress: Progress) -> Taken
+pub(crate) fn plan_frame(file: &[u8], state: StreamPlayer, room: usize, progress: Progress) -> Taken
     ensures { λ r. ⌜ (takenTold state r ≡ planTold state (planFrame state (now (file .entry)) room progress)) × (r .count ≤ room) ⌝ }
 {
     let paced = pace(file, state, file.len(), room, progress);
@@ -41,7 +41,7 @@ pub fn plan_frame(file: &[u8], state: StreamPlayer, room: usize, progress: Progr
 }
 
 // A frame, counted from 0, that begins at the cursor.
-pub fn begin_frame(
+pub(crate) fn begin_frame(
     file: &[u8],
     state: StreamPlayer,
     room: usize,

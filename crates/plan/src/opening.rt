@@ -12,7 +12,12 @@ ghost use mathlib.Core.Path.{_≡_};
 ghost use Rattle.play_laws.specs.Pace.{planOpening};
 ghost use Rattle.plan.specs.Told.{planTold, takenTold};
 
-pub fn plan_opening(file: &[u8], state: StreamPlayer, room: usize, progress: Progress) -> Taken
+pub(crate) fn plan_opening(
+    file: &[u8],
+    state: StreamPlayer,
+    room: usize,
+    progress: Progress,
+) -> Taken
     ensures { λ r. ⌜ takenTold state r ≡ planTold state (planOpening state (now (file .entry)) room progress) ⌝ }
 {
     let frame_start = state.header.frame_start;

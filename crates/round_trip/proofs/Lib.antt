@@ -13,3 +13,4 @@ pub mod RepackedOpening
 pub mod Repacked
 pub mod Written
 pub mod Reading
+pub mod Foreign

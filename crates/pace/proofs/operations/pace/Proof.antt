@@ -3,7 +3,8 @@ use borrow.Author.Needs.{needs}
 use native.Mathlib.Omega.{arith}
 use borrow.Author.Tests.{lt-ltb, le-ltb}
 use Prim.Native.Nat.{_+_, _^_, _≤_, _<_}
-use mathlib.Core.Path.{_≡_}
+use mathlib.Core.Path.{_≡_, refl}
+use mathlib.Core.Bool.{false≢true}
 use Rattle.play_laws.specs.Pace.{paced}
 use Rattle.format.specs.Player.{placed, operationsLeft, as25}
 use Rattle.play_laws.proofs.Paced.{paced-end, paced-full}
@@ -25,7 +26,7 @@ returns : tie.Need-returns Inv-loop μ-loop
 returns c =
     let l = c .before .before .before .before in
     let a = l .before .before .before .before .args in
-    (rw (l .loop .inv .2, c .answer .ensures, c .before .placed .ensures, c .before .before .if1 .taken, paced-full (a .state) (a .file .now) (a .limit) (l .loop .left)), rw (c .answer .ensures) (omega arith))
+    (rw (l .loop .inv .2, c .answer .ensures, c .before .placed .ensures, c .before .before .if1 .taken, paced-full (a .state) (a .file .now) (a .limit) (l .loop .left)), rw (c .answer .ensures) (omega arith), rw (c .answer .ensures) (λ e. absurd (false≢true e)))
 
 returns-2 : tie.Need-returns-2 Inv-loop μ-loop
 returns-2 c =
@@ -35,6 +36,7 @@ returns-2 c =
     let p = placed (a .progress) (l .loop .cursor) (l .loop .operations) (l .loop .writes) (l .loop .waves) in (
       rw (l .loop .inv .2, paced-25 (a .state) (a .file .now) (a .limit) (l .loop .left) (l .loop .free) p (omega arith) (omega arith), ← (start .start .ensures .0), c .before .if2 .taken, c .answer2 .ensures),
       rw (c .answer2 .ensures) (omega arith),
+      rw (c .answer2 .ensures) (λ e. (refl, refl)),
     )
 
 returns-3 : tie.Need-returns-3 Inv-loop μ-loop
@@ -53,6 +55,7 @@ returns-3 c =
         c .before .placed2 .ensures,
       ),
       rw (c .answer3 .ensures) (omega arith),
+      rw (c .answer3 .ensures) (λ e. absurd (false≢true e)),
     )
 
 loop-less : tie.Need-loop-less Inv-loop μ-loop
@@ -74,7 +77,7 @@ returns-4 c =
     let l = c .before .before .before in
     let a = l .before .before .before .before .args in
     let none : l .loop .left ≡ 0 = omega arith in
-    (rw (l .loop .inv .2, c .answer4 .ensures, c .before .placed3 .ensures, none, paced-end (a .state) (a .file .now) (a .limit) (l .loop .free)), rw (c .answer4 .ensures) (omega arith))
+    (rw (l .loop .inv .2, c .answer4 .ensures, c .before .placed3 .ensures, none, paced-end (a .state) (a .file .now) (a .limit) (l .loop .free)), rw (c .answer4 .ensures) (omega arith), rw (c .answer4 .ensures) (λ e. absurd (false≢true e)))
 
 pub pace-spec : {M : Type 1} → statement M
 pace-spec =
