@@ -1,7 +1,6 @@
 -- Files played, computed. Each stands here for the must-fail edits that it refuses; what holds of every file and every list of calls is proved
 -- in the crate agreement.
 use Prim.Native.Nat.{ℕ}
-use mathlib.Core.Bool.{true, false}
 use mathlib.Core.Path.{_≡_, refl}
 use mathlib.Core.List.{List, [], _∷_, _++_, map}
 use mathlib.Core.Option.{none, some}

@@ -2,11 +2,11 @@
 use Prim.Native.Nat.{ℕ, suc}
 use mathlib.Core.Bool.{cond}
 use mathlib.Core.List.{List, [], _∷_, _++_}
-use lib.ListN.{length, set, replicate}
+use lib.ListN.{length, set}
 use Rattle.format.specs.Bytes.{bytesOf, sameBytes}
 use Rattle.format.specs.Checked.{Checked, ok, refused, mapped}
 use Rattle.format.specs.Header.{letters}
-use Rattle.format.specs.Listener.{Call, answers}
+use Rattle.format.specs.Listener.{answers, sameCalls}
 use Rattle.format.specs.Player.{Played}
 use Rattle.format.specs.Repack.{repack}
 use Rattle.format.specs.State.{started}
@@ -44,7 +44,7 @@ writes count = 0 ∷ 1 ∷ count ∷ []
 
 -- so many calls of the player that a start gives, each with the player's own file and a run of 64 records
 abbrev pub plays : (calls : ℕ) → List ℕ → List ℕ
-plays calls file = told (answers (started file) (replicate calls (record { file = file; room = 64 })))
+plays calls file = told (answers (started file) (sameCalls file 64 calls))
 
 unfoldable pub empty : List ℕ
 empty =

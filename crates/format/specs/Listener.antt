@@ -30,14 +30,14 @@ unfoldable pub answers : StreamPlayer → List Call → List (Checked Played)
 answers state [] = []
 answers state (c ∷ calls) = call state (c .file) (c .room) ∷ answers (after state (call state (c .file) (c .room))) calls
 
--- so many calls with one file and one room
-abbrev pub sameCalls : List ℕ → (room count : ℕ) → List Call
-sameCalls file room count = replicate count (record { file = file; room = room })
-
 -- the state after them
 unfoldable pub reached : StreamPlayer → List Call → StreamPlayer
 reached state [] = state
 reached state (c ∷ calls) = reached (after state (call state (c .file) (c .room))) calls
+
+-- so many calls with one file and one room
+abbrev pub sameCalls : List ℕ → (room count : ℕ) → List Call
+sameCalls file room count = replicate count (record { file = file; room = room })
 
 -- "and that file, or any bytes if 25 refuses them or the state is finished"
 pub data Admissible (own : List ℕ) (state : StreamPlayer) (c : Call) : Type 0 where
