@@ -3,9 +3,10 @@
 use super::comparison::Compared;
 use super::repack::Repacked;
 use super::{
-    Card, CardTable, Header, Player, Pool, PoolEntry, Progress, Started, Verdict, Vsync, WaveSource,
+    Card, CardRequirement, CardTable, Header, Player, Pool, Pools, Progress, Started, Verdict,
+    Vsync, WaveSource,
 };
-use crate::WriteRecord;
+use crate::{PoolEntry, WriteRecord};
 use std::mem::offset_of;
 use std::path::{Path, PathBuf};
 use std::process::Command;
@@ -36,7 +37,7 @@ fn size_of_field<S, F>(_: fn(&S) -> &F) -> usize {
     size_of::<F>()
 }
 
-fn layouts() -> [Layout; 14] {
+fn layouts() -> [Layout; 16] {
     [
         layout!(
             "sgub_verdict",
@@ -58,14 +59,22 @@ fn layouts() -> [Layout; 14] {
             }
         ),
         layout!(
-            "sgub_card",
-            Card {
+            "sgub_card_requirement",
+            CardRequirement {
                 slot,
                 id_length,
                 id_offset,
                 bulk_start,
                 bulk_length,
                 id,
+            }
+        ),
+        layout!(
+            "sgub_card",
+            Card {
+                number,
+                place,
+                card,
             }
         ),
         layout!(
@@ -79,6 +88,14 @@ fn layouts() -> [Layout; 14] {
             }
         ),
         layout!("sgub_pool_entry", PoolEntry { kind, size, offset }),
+        layout!(
+            "sgub_pools",
+            Pools {
+                number,
+                place,
+                count,
+            }
+        ),
         layout!(
             "sgub_header",
             Header {
@@ -188,8 +205,8 @@ const FUNCTIONS: &str = "
 struct sgub_verdict sgub_check(const unsigned char *, unsigned long);
 struct sgub_card sgub_card(const unsigned char *, unsigned long, unsigned long);
 struct sgub_pool sgub_pool(const unsigned char *, unsigned long, unsigned short);
-struct sgub_pool_entry sgub_pool_entry(
-    const unsigned char *, unsigned long, unsigned int, unsigned short);
+struct sgub_pools sgub_pools(
+    const unsigned char *, unsigned long, struct sgub_pool_entry *, unsigned long);
 struct sgub_started sgub_start(const unsigned char *, unsigned long);
 struct sgub_vsync sgub_advance_vsync(
     struct sgub_player *, const unsigned char *, unsigned long, struct sgub_write *, unsigned long);
@@ -228,6 +245,13 @@ int main(void) {
     verdict = sgub_check(file, sizeof file);
     if (verdict.number != 3 || verdict.place != 0 || verdict.version != 0)
         return 2;
+    struct sgub_card card = sgub_card(file, sizeof file, 0);
+    if (card.number != 3 || card.place != 0 || card.card.id_length != 0)
+        return 9;
+    struct sgub_pool_entry entry = {0xA5, 0, 0};
+    struct sgub_pools pools = sgub_pools(file, sizeof file, &entry, 1);
+    if (pools.number != 3 || pools.place != 0 || pools.count != 0 || entry.kind != 0xA5)
+        return 10;
     struct sgub_pool pool = sgub_pool(file, sizeof file, 0);
     return pool.number == 3 && pool.kind == 0 && pool.size == 0 ? 0 : 3;
 }
@@ -288,7 +312,7 @@ fn the_library_has_these_declarations() {
     let unplayed = Player {
         header,
         cards: CardTable {
-            cards: std::array::from_fn(|index| super::card(&file, index)),
+            cards: std::array::from_fn(|index| super::card(&file, index).card),
             count: 2,
         },
         uses_si22: true,
