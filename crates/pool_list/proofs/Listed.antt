@@ -17,7 +17,7 @@ use Rattle.format.specs.Stream.{Stream, read}
 use Rattle.file_check.specs.Answer.{Recorded, recorded}
 use Rattle.pool_entry.specs.Entry.{entryOf}
 use Rattle.pool_lookup.proofs.Pools.{kind-found, payload-found}
-use Rattle.pool_list.specs.declared.entries.SgubPoolEntry.{SgubPoolEntry}
+use Rattle.pool_list.specs.declared.SgubPoolEntry.{SgubPoolEntry}
 use Rattle.pool_list.specs.Entries.{entryFields, entriesFrom, fitting, entriesStored}
 use Rattle.pool_list.specs.Listing.{poolsOn, listingOn, runAfter}
 use Rattle.pool_list.proofs.Stored.{fitting-least, entries-long, entry-at}

@@ -10,7 +10,7 @@ use lib.Dec.{ltb}
 use lib.ListN.{length, getD, set}
 use Rattle.format.specs.Pool.{poolAt}
 use Rattle.format.proofs.Lent as front
-use Rattle.pool_list.specs.declared.entries.SgubPoolEntry.{SgubPoolEntry}
+use Rattle.pool_list.specs.declared.SgubPoolEntry.{SgubPoolEntry}
 use Rattle.pool_list.specs.Entries.{entryFields, entriesFrom, fitting, entriesStored}
 
 -- HOW MANY

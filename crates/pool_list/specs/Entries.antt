@@ -7,7 +7,7 @@ use lib.ListN.{length}
 use Rattle.format.specs.declared.pool.Pool.{Pool}
 use Rattle.format.specs.Lent.{stored}
 use Rattle.format.specs.Pool.{poolAt}
-use Rattle.pool_list.specs.declared.entries.SgubPoolEntry.{SgubPoolEntry}
+use Rattle.pool_list.specs.declared.SgubPoolEntry.{SgubPoolEntry}
 
 abbrev pub entryFields : Pool → SgubPoolEntry
 entryFields pool = record { kind = pool .kind; size = pool .size; offset = pool .offset }

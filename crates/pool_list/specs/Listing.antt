@@ -4,7 +4,7 @@ use mathlib.Core.List.{List}
 use Rattle.format.specs.Checked.{Checked, ok, refused}
 use Rattle.file_check.specs.Answer.{Recorded, recorded}
 use Rattle.pool_list.specs.Entries.{entriesStored}
-use Rattle.pool_list.specs.declared.entries.SgubPoolEntry.{SgubPoolEntry}
+use Rattle.pool_list.specs.declared.SgubPoolEntry.{SgubPoolEntry}
 use Rattle.pool_list.specs.declared.listing.PoolListing.{PoolListing}
 use Rattle.pool_list.specs.declared.listing.SgubPools.{SgubPools}
 

@@ -197,3 +197,5 @@ pub mod repack;
 
 #[cfg(test)]
 mod header;
+#[cfg(test)]
+mod library;

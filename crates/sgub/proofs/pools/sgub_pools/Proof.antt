@@ -16,7 +16,8 @@ use prog.Wp.{Heap, Env, Calls, Loops, WpFn, Tables}
 use ghost.Atoms.{Atoms, sem}
 use contract.Monad.{Fun, fact}
 use contract.Running.{givenOf, tables, tablesOf}
-use types.Kit.{Given, Item, Sq, runs, atRet, use3, feqL, ‵, raw, _⊛_, ⋆, some, later, _$_, _∵_, !, qed, by, move, keep, drop, use1, use2, split, join, pick, rewrite, fsplit, fjoin, suffices, frame, await, done}
+use types.Kit.{Given, Item, Sq, runs, atRet, use3, feqL, ‵, raw, _⊛_, ⋆, some, later, _$_, _∵_, !, qed, by, move, keep, drop, use1, use2, split, join, pick, rewrite, fsplit, fjoin}
+use types.Kit.{suffices, frame, await, done}
 use types.Run.{look, init, forget, stop, hop, fld, from, load, addr, of-opd, and-then, no-more, assigns, land, returns, enter, alloc1, alloc0, params1, pass1, pass0, free1, free0}
 use types.Part.{agg, whole, sub, look-in}
 use sound.WpLaws.{FmC, fmOf, WpFn-mono}
@@ -39,12 +40,12 @@ use denote.Triple.Table.{entered, cited}
 use denote.Triple.Walked.{says, Stays, stay-none-slice, gave-slice, walkOf, goes-none-slice, goes-gave-slice, Walks, ends-at, walked, walk-meets}
 use denote.Exit.{yes}
 use Rattle.file_check.specs.Answer.{recorded}
-use Rattle.pool_list.specs.declared.entries.SgubPoolEntry.{SgubPoolEntry}
+use Rattle.pool_list.specs.declared.SgubPoolEntry.{SgubPoolEntry}
 use Rattle.pool_list.specs.declared.listing.PoolListing.{PoolListing}
 use Rattle.pool_list.specs.Entries.{entriesStored}
 use Rattle.pool_list.specs.Listing.{listingOn}
 use Rattle.pool_list.proofs.Listed.{run-is, answer-is}
-use Rattle.pool_list.proofs.entries.SgubPoolEntry as T
+use Rattle.pool_list.proofs.SgubPoolEntry as T
 use Rattle.pool_list.proofs.listing.PoolListing as S
 use Rattle.pool_list.proofs.listing.PoolListing.Laws as S′
 use Rattle.pool_list.proofs.listing.SgubPools as Y
@@ -214,7 +215,8 @@ module _ {M : Type 1} (𝓤 : URA M) (H : Heap 𝓤) (A : Atoms 𝓤) (W : Given
           calls-at ! fm (Stores 𝓤 H A mem run) known-store (to-store r)
           (and-then ! (load ! (from ! (stop !)) (look ! 2 refl))
           (and-then ! (load ! (from ! (stop !)) (look ! 12 refl))
-          (and-then ! (load ! (from ! (fld ! refl (stop !))) (look-in ! 8 (sub ! 1 refl (whole !)))) (and-then ! (load ! (from ! (fld ! refl (stop !))) (look-in ! 8 (sub ! 2 refl (whole !)))) (no-more !))))) (λ v.
+          (and-then ! (load ! (from ! (fld ! refl (stop !))) (look-in ! 8 (sub ! 1 refl (whole !))))
+          (and-then ! (load ! (from ! (fld ! refl (stop !))) (look-in ! 8 (sub ! 2 refl (whole !)))) (no-more !))))) (λ v.
           use1 W (later (some (λ (z : Unit {0}). ((‵ (flft κ₂ q₂) ⊛ ‵ (flft κ q) ⊛ ‵ ftrue) ⊛ ‵ (Nothing .own z (v ∷ [])))
           ⊛ raw (ensured 𝓤 H A sp.ended (sp.clauses 𝓤 H A mem run) (κ₂, (κ, tt)) (to-store r .0 .3) tt z)))) (id⊢ 𝓤 _) $ await ! tt $ pick ! (λ z.
           split ! $ move ! (1 ∷ []) $ use1 W (some (λ (zs : Lasts sp.ended (κ₂, (κ, tt)) (to-store r .0 .3)). ‵ (lasts sp.ended (κ₂, (κ, tt)) (to-store r .0 .3) zs)

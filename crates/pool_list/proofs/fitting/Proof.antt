@@ -1,8 +1,8 @@
 -- `fitting` meets its contract: its test is the definition's.
 use borrow.Author.Tests.{lt-ltb, le-ltb}
 use Rattle.pool_list.specs.Entries.{fitting}
-use Rattle.pool_list.proofs.entries.fitting.Statement.{statement}
-use Rattle.pool_list.proofs.entries.fitting.Tie as tie
+use Rattle.pool_list.proofs.fitting.Statement.{statement}
+use Rattle.pool_list.proofs.fitting.Tie as tie
 
 returns : tie.Need-returns
 unfolding fitting

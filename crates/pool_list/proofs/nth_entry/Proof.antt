@@ -2,8 +2,8 @@
 use mathlib.Core.Path.{ap}
 use borrow.Author.Needs.{needs}
 use Rattle.pool_list.specs.Entries.{entryFields}
-use Rattle.pool_list.proofs.entries.nth_entry.Statement.{statement}
-use Rattle.pool_list.proofs.entries.nth_entry.Tie as tie
+use Rattle.pool_list.proofs.nth_entry.Statement.{statement}
+use Rattle.pool_list.proofs.nth_entry.Tie as tie
 
 returns : tie.Need-returns
 returns c = ap entryFields (c .read-pool .ensures)
