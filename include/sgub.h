@@ -35,7 +35,7 @@ struct sgub_verdict {
 struct sgub_verdict sgub_check(const uint8_t *file, size_t length);
 
 /* A card that a file of version 4 asks for. */
-struct sgub_card {
+struct sgub_card_requirement {
     uint8_t slot;
     uint8_t id_length;
     uint32_t id_offset;
@@ -44,7 +44,14 @@ struct sgub_card {
     uint8_t id[16];
 };
 
-/* The card of an accepted file by its index; all 0 from the card count on, and for a refused file. */
+/* A card of a file. */
+struct sgub_card {
+    uint32_t number; /* 0, or the file's refusal */
+    uint64_t place;
+    struct sgub_card_requirement card; /* all 0 from the card count on, and for a refused file */
+};
+
+/* The card of a file by its index, with the whole file checked first. */
 struct sgub_card sgub_card(const uint8_t *file, size_t length, size_t index);
 
 /* A pool: its kind (1 wave, 2 PCM, 3 card), and the part of the file that is its payload. */
@@ -59,14 +66,24 @@ struct sgub_pool {
 /* The pool of a file by its id, with the whole file checked first. */
 struct sgub_pool sgub_pool(const uint8_t *file, size_t length, uint16_t id);
 
-/* An entry of the directory as it stands, with nothing checked: for listing the pools of a file that sgub_check accepted. */
+/* An entry of the pool directory: the kind, and the part of the file that is the payload. */
 struct sgub_pool_entry {
     uint8_t kind;
     uint32_t size;
     uint32_t offset;
 };
 
-struct sgub_pool_entry sgub_pool_entry(const uint8_t *file, size_t length, uint32_t directory_offset, uint16_t id);
+/* The answer of a listing. */
+struct sgub_pools {
+    uint32_t number; /* 0, or the file's refusal */
+    uint64_t place;
+    uint64_t count; /* the pools of the file, however few of them the run holds; 0 for a refused file */
+};
+
+/* Checks the whole file once and lists its pools, by their ids from 0 on, into a run of room entries: as many as it holds. The
+ * entries behind them stay as they were; a refusal writes nothing. 65,536 entries are room for every file. The run may not overlap the
+ * file; a run of room 0 may have any pointer but NULL. */
+struct sgub_pools sgub_pools(const uint8_t *file, size_t length, struct sgub_pool_entry *pools, size_t room);
 
 /* PLAYING. A player is a plain value: it may be copied and put away, and nothing has to be freed. Its file is lent again to each
  * call. Any numbers may stand in a player's fields (a bool is 0 or 1, as in all of C), so that a player may come from a file too. */
@@ -88,7 +105,7 @@ struct sgub_header {
 
 /* The cards of the player's file; those from the count on are all 0. */
 struct sgub_card_table {
-    struct sgub_card cards[8];
+    struct sgub_card_requirement cards[8];
     size_t count;
 };
 

@@ -1,1 +1,2 @@
-mod Cards
+pub mod Cards
+pub mod Pools

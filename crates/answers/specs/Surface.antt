@@ -1,10 +1,7 @@
 -- What the library's structs hold: the definitions' answers as plain numbers, for C and Rust.
 use Prim.Native.Nat.{ℕ}
-use mathlib.Core.Bool.{Bool, false, cond}
-use lib.Dec.{ltb}
+use mathlib.Core.Bool.{Bool, false}
 use lib.ListN.{getD}
-use Rattle.format.specs.declared.card.CardRequirement.{CardRequirement}
-use Rattle.format.specs.declared.card.CardTable.{CardTable}
 use Rattle.format.specs.declared.header.Header.{Header}
 use Rattle.format.specs.declared.pool.Pool.{Pool}
 use Rattle.format.specs.Checked.{Checked, ok, refused}
@@ -14,7 +11,6 @@ use Rattle.file_check.specs.Answer.{Recorded}
 use Rattle.answers.specs.declared.verdict.SgubVerdict.{SgubVerdict}
 use Rattle.answers.specs.declared.card.SgubCard.{SgubCard}
 use Rattle.answers.specs.declared.pool.SgubPool.{SgubPool}
-use Rattle.answers.specs.declared.pool.SgubPoolEntry.{SgubPoolEntry}
 use Rattle.answers.specs.declared.repacked.SgubRepacked.{SgubRepacked}
 use Rattle.answers.specs.declared.comparison.SgubCompared.{SgubCompared}
 
@@ -62,20 +58,19 @@ abbrev pub verdictOn : Checked Recorded → SgubVerdict
 verdictOn (ok found) = acceptedAs (found .header) (found .«uses_si22»)
 verdictOn (refused number place) = refusedAs number place
 
-abbrev pub cardFields : CardRequirement → SgubCard
-cardFields card =
-    record { slot = card .slot; «id_length» = card .«id_length»; «id_offset» = card .«id_offset»; «bulk_start» = card .«bulk_start»; «bulk_length» = card .«bulk_length»; id = card .id }
-
--- the card of a table by its index; all 0 past the eight that it has
-abbrev pub cardOn : CardTable → (index : ℕ) → SgubCard
-cardOn table index = cardFields (cond (ltb index 8) (getD (table .cards) index noCard) noCard)
+-- a card by its index, all 0 from the count on; or the refusal, with a card that is all 0
+abbrev pub cardOn : Checked Recorded → (index : ℕ) → SgubCard
+cardOn (ok found) index = record { number = 0; place = 0; card = getD (found .cards .cards) index noCard }
+cardOn (refused number place) index = record { number = number; place = place; card = noCard }
 
 abbrev pub poolOn : Checked Pool → SgubPool
 poolOn (ok pool) = record { number = 0; place = 0; kind = pool .kind; offset = pool .offset; size = pool .size }
 poolOn (refused number place) = record { number = number; place = place; kind = 0; offset = 0; size = 0 }
 
-abbrev pub entryFields : Pool → SgubPoolEntry
-entryFields pool = record { kind = pool .kind; size = pool .size; offset = pool .offset }
+-- the kind that a lookup gives, 0 for a refused file
+abbrev pub kindIn : Checked ℕ → ℕ
+kindIn (ok kind) = kind
+kindIn (refused number place) = 0
 
 abbrev pub repackedOn : Checked ℕ → SgubRepacked
 repackedOn (ok size) = record { number = 0; place = 0; size = size }

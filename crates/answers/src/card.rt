@@ -1,49 +1,59 @@
-// A card as plain numbers.
+// The verdict on a file with one of its cards.
+use file_check::FileAnswer;
+use file_check::FileCheck;
 use format::CardRequirement;
 use format::CardTable;
+use state::no_card;
 ghost use mathlib.Core.Path.{_≡_};
-ghost use Rattle.answers.specs.Surface.{cardFields, cardOn};
+ghost use lib.ListN.{getD};
+ghost use Rattle.format.specs.State.{noCard};
+ghost use Rattle.file_check.specs.Answer.{fileCheckOf};
+ghost use Rattle.answers.specs.Surface.{cardOn};
 
-// A card.
+// A card; all 0 from the card count on, and where the file is refused.
 #[repr(C)]
 pub struct SgubCard {
-    pub slot: u8,
-    pub id_length: u8,
-    pub id_offset: u32,
-    pub bulk_start: u32,
-    pub bulk_length: u32,
-    pub id: [u8; 16],
-}
-
-fn card_of(card: CardRequirement) -> SgubCard
-    ensures { λ r. ⌜ r ≡ cardFields card ⌝ }
-{
-    let id = card.id;
-    SgubCard {
-        slot: card.slot,
-        id_length: card.id_length,
-        id_offset: card.id_offset,
-        bulk_start: card.bulk_start,
-        bulk_length: card.bulk_length,
-        id: id,
-    }
+    pub number: u32,
+    pub place: u64,
+    pub card: CardRequirement,
 }
 
 // The card of a table by its index; all 0 past the eight that it has.
-pub fn card_at(table: CardTable, index: usize) -> SgubCard
-    ensures { λ r. ⌜ r ≡ cardOn table index ⌝ }
+fn card_at(table: CardTable, index: usize) -> CardRequirement
+    ensures { λ r. ⌜ r ≡ getD (table .cards) index noCard ⌝ }
 {
     if index < 8 {
         let card = table.cards[index];
-        return card_of(card);
+        return card;
     }
-    let id = [0; 16];
-    SgubCard {
-        slot: 0,
-        id_length: 0,
-        id_offset: 0,
-        bulk_start: 0,
-        bulk_length: 0,
-        id: id,
+    no_card()
+}
+
+pub fn card_of(checked: FileCheck, index: usize) -> SgubCard
+    ensures { λ r. ⌜ r ≡ cardOn (fileCheckOf checked .0) index ⌝ }
+{
+    let table = checked.cards;
+    let answer = checked.answer;
+    match answer {
+        FileAnswer::Accepted {
+            header: _,
+            uses_si22: _,
+        } => {
+            let card = card_at(table, index);
+            SgubCard {
+                number: 0,
+                place: 0,
+                card: card,
+            }
+        }
+        FileAnswer::Refused(refusal) => {
+            let rule = refusal.rule;
+            let card = no_card();
+            SgubCard {
+                number: numbers::number(rule),
+                place: refusal.place as u64,
+                card: card,
+            }
+        }
     }
 }

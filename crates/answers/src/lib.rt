@@ -6,12 +6,10 @@ mod repacked;
 mod verdict;
 
 pub use card::SgubCard;
-pub use card::card_at;
+pub use card::card_of;
 pub use comparison::SgubCompared;
 pub use comparison::compared_of;
 pub use pool::SgubPool;
-pub use pool::SgubPoolEntry;
-pub use pool::entry_of;
 pub use pool::pool_of;
 pub use repacked::SgubRepacked;
 pub use repacked::repacked_of;

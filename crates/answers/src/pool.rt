@@ -1,9 +1,8 @@
 // A pool as plain numbers: the kit exports no reference, so its payload is an offset and a size.
-use format::Pool;
 use pool_lookup::PoolFound;
 ghost use mathlib.Core.Path.{_≡_};
 ghost use Rattle.pool_lookup.specs.Found.{poolFoundOf};
-ghost use Rattle.answers.specs.Surface.{entryFields, poolOn};
+ghost use Rattle.answers.specs.Surface.{poolOn};
 
 // A pool: its kind, and the part of the file that is its payload; or the refusal of the file.
 #[repr(C)]
@@ -13,14 +12,6 @@ pub struct SgubPool {
     pub kind: u8,
     pub offset: u64,
     pub size: u64,
-}
-
-// An entry of the directory.
-#[repr(C)]
-pub struct SgubPoolEntry {
-    pub kind: u8,
-    pub size: u32,
-    pub offset: u32,
 }
 
 pub fn pool_of(found: PoolFound) -> SgubPool
@@ -44,15 +35,5 @@ pub fn pool_of(found: PoolFound) -> SgubPool
                 size: 0,
             }
         }
-    }
-}
-
-pub fn entry_of(pool: Pool) -> SgubPoolEntry
-    ensures { λ r. ⌜ r ≡ entryFields pool ⌝ }
-{
-    SgubPoolEntry {
-        kind: pool.kind,
-        size: pool.size,
-        offset: pool.offset,
     }
 }

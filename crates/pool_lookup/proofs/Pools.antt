@@ -39,7 +39,8 @@ pools-found version file directory (suc count) id start found e i =
   where
     go : (i : ℕ) (others : List Payload) → poolAt file directory id .offset ≡ start
         → ((j : ℕ) → getD others j noPool ≡ cond (ltb j count) (payloadOf file (poolAt file directory (suc id + j))) noPool)
-        → getD (record { kind = poolAt file directory id .kind; bytes = part file start (poolAt file directory id .size) } ∷ others) i noPool ≡ cond (ltb i (suc count)) (payloadOf file (poolAt file directory (id + i))) noPool
+        → getD (record { kind = poolAt file directory id .kind; bytes = part file start (poolAt file directory id .size) } ∷ others) i noPool
+        ≡ cond (ltb i (suc count)) (payloadOf file (poolAt file directory (id + i))) noPool
     go zero others here rest = rw (add-zero, ← here, lt-ltb 0 (suc count) (omega arith))
     go (suc j) others here rest =
         let next : id + suc j ≡ suc id + j = omega arith in
@@ -53,7 +54,8 @@ pool-found file s id e =
     ∙ rw zero-add (go (ltb id (header .«pool_count»)))
   where
     go : (known : Bool)
-        → cond known (payloadOf file (poolAt file (headerOf file .«directory_offset») id)) noPool ≡ payloadOf file (cond known (poolAt file (headerOf file .«directory_offset») id) (record { kind = 0; size = 0; offset = 0 }))
+        → cond known (payloadOf file (poolAt file (headerOf file .«directory_offset») id)) noPool
+        ≡ payloadOf file (cond known (poolAt file (headerOf file .«directory_offset») id) (record { kind = 0; size = 0; offset = 0 }))
     go true = refl
     go false = refl
 
@@ -62,7 +64,8 @@ pub kind-found : (file : List ℕ) (id : ℕ) → poolKind file id ≡ mapped (�
 unfolding poolKind
 kind-found file id = go (read file) refl
   where
-    go : (s : Checked Stream) → read file ≡ s → mapped (λ (s : Stream). getD (s .pools) id noPool .kind) s ≡ mapped (λ (pool : Pool). pool .kind) (mapped (λ (s : Stream). entryOf file (headerOf file) id) s)
+    go : (s : Checked Stream) → read file ≡ s → mapped (λ (s : Stream). getD (s .pools) id noPool .kind) s
+        ≡ mapped (λ (pool : Pool). pool .kind) (mapped (λ (s : Stream). entryOf file (headerOf file) id) s)
     go (ok s) e = ap (λ (pool : Payload). ok (pool .kind)) (pool-found file s id e)
     go (refused number place) e = refl
 

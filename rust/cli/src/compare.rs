@@ -2,7 +2,8 @@
 
 use crate::input;
 use crate::status::{Failure, Status};
-use sgub::{Comparison, IMAGE_SIZE, Side, first_difference};
+use sgub::{Comparison, IMAGE_SIZE, Side};
+use sgub_cli::first_difference;
 use std::ffi::OsString;
 use std::io::Write;
 

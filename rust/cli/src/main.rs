@@ -1,4 +1,5 @@
-//! The command `sgub`. The library decides everything about a file; this command reads files and prints.
+//! The command `sgub`. The library decides everything about a file; this command reads files and prints. What it finds out by itself
+//! is in the package's library.
 #![forbid(unsafe_code)]
 
 mod check;

@@ -33,7 +33,7 @@ fn started(file: &[u8], verdict: &Verdict) -> Result<(), String> {
                 && player.card_requirements().len() == usize::from(header.card_count)
                 && (0..)
                     .zip(player.card_requirements())
-                    .all(|(index, card)| sgub::card(file, index) == Some(card))
+                    .all(|(index, card)| sgub::card(file, index) == Ok(Some(card)))
                 && (player.frame_index(), player.is_finished()) == (0, false)
         }
         (Err(refusal), Verdict::Refused(same)) => refusal == same,
@@ -110,7 +110,8 @@ fn own_fields(file: &[u8], header: &Header) -> Result<(), String> {
 fn cards(file: &[u8], original: &Accepted) -> Result<(), String> {
     for (index, theirs) in original.cards.iter().enumerate() {
         let ours = sgub::card(file, index);
-        let same = ours.is_some_and(|card| {
+        let same = ours.is_ok_and(|card| {
+            let Some(card) = card else { return false };
             (card.slot, card.name()) == (theirs.slot, theirs.id.as_slice())
                 && (card.id_offset, card.bulk_start) == (theirs.id_offset, theirs.bulk_start)
                 && card.bulk_length == theirs.bulk_length
@@ -123,17 +124,21 @@ fn cards(file: &[u8], original: &Accepted) -> Result<(), String> {
         }
     }
     match sgub::card(file, original.cards.len()) {
-        None => Ok(()),
-        Some(card) => Err(format!(
-            "library {card:?}, which the original does not have"
+        Ok(None) => Ok(()),
+        other => Err(format!(
+            "library {other:?}, which the original does not have"
         )),
     }
 }
 
 /// Every entry of the directory, and the payload of the first pool, the last, and the one behind it that is not there.
 fn pools(file: &[u8], header: &Header, judged: &Judged) -> Result<(), String> {
-    for id in (0..header.pool_count).map(|id| id as u16) {
-        let entry = sgub::pool_entry(file, header.directory_offset, id);
+    let entries =
+        sgub::pools(file).map_err(|refusal| format!("library {refusal:?} for the pools"))?;
+    if entries.len() != header.pool_count as usize {
+        return Err(format!("library lists {} pools", entries.len()));
+    }
+    for (id, entry) in (0..=u16::MAX).zip(entries) {
         let part = file.get(entry.offset as usize..).unwrap_or(&[]);
         let payload = part.get(..entry.size as usize).unwrap_or(&[]);
         if judged.pool_payload(id) != Some((entry.kind, payload)) {

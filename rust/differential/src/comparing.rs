@@ -5,7 +5,8 @@ use crate::memory::Memory;
 use crate::oracle::{self, Player, Vsync};
 use crate::rng::Rng;
 use crate::{listening, weight};
-use sgub::{Comparison, Difference, Header, IMAGE_SIZE, Refusal, Side, Verdict, WriteRecord};
+use sgub::{Comparison, Header, IMAGE_SIZE, Refusal, Side, Verdict, WriteRecord};
+use sgub_cli::Difference;
 
 /// What each byte of lent memory is before the call.
 const BEFORE: u8 = 0xA5;
@@ -168,7 +169,7 @@ impl Comparing {
             }
         }
         let [master_lent, other_lent] = &self.lent;
-        let words = sgub::first_difference(files[0], files[1], master_lent, other_lent);
+        let words = sgub_cli::first_difference(files[0], files[1], master_lent, other_lent);
         if words != difference {
             return Err(format!("first {words:?}, by the rule {difference:?}"));
         }

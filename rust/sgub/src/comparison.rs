@@ -10,7 +10,7 @@ pub const IMAGE_SIZE: usize = 0x10_0000;
 pub enum Comparison {
     /// The files sound the same.
     Passed,
-    /// They do not by the format sheet's rule; [`first_difference`](crate::first_difference) says where.
+    /// They do not by the format sheet's rule.
     Failed,
     /// A file is refused.
     Refused(Side, Refusal),

@@ -2,7 +2,7 @@
 //!
 //! No compiler compares these declarations with the header. A test does, with the help of a C compiler.
 
-use crate::WriteRecord;
+use crate::{PoolEntry, WriteRecord};
 
 /// `struct sgub_verdict`
 #[repr(C)]
@@ -23,16 +23,24 @@ pub struct Verdict {
     pub total_size: u32,
 }
 
-/// `struct sgub_card`
+/// `struct sgub_card_requirement`
 #[derive(Clone, Copy, Debug, PartialEq, Eq)]
 #[repr(C)]
-pub struct Card {
+pub struct CardRequirement {
     pub slot: u8,
     pub id_length: u8,
     pub id_offset: u32,
     pub bulk_start: u32,
     pub bulk_length: u32,
     pub id: [u8; 16],
+}
+
+/// `struct sgub_card`
+#[repr(C)]
+pub struct Card {
+    pub number: u32,
+    pub place: u64,
+    pub card: CardRequirement,
 }
 
 /// `struct sgub_pool`
@@ -45,12 +53,12 @@ pub struct Pool {
     pub size: u64,
 }
 
-/// `struct sgub_pool_entry`
+/// `struct sgub_pools`
 #[repr(C)]
-pub struct PoolEntry {
-    pub kind: u8,
-    pub size: u32,
-    pub offset: u32,
+pub struct Pools {
+    pub number: u32,
+    pub place: u64,
+    pub count: u64,
 }
 
 /// `struct sgub_header`
@@ -74,7 +82,7 @@ pub struct Header {
 #[derive(Clone, Copy, Debug, PartialEq, Eq)]
 #[repr(C)]
 pub struct CardTable {
-    pub cards: [Card; 8],
+    pub cards: [CardRequirement; 8],
     pub count: usize,
 }
 
@@ -128,14 +136,13 @@ pub struct Vsync {
 }
 
 // A function is safe to call with the pointer and the length of a slice: by its proof the library reads within them,
-// writes only to a lent player and run, and keeps no pointer. The pointer of an empty slice is not null, as the header
+// writes only to what is lent as `&mut`, and keeps no pointer. The pointer of an empty slice is not null, as the header
 // asks, and references do not overlap.
 unsafe extern "C" {
     fn sgub_check(file: *const u8, length: usize) -> Verdict;
     fn sgub_card(file: *const u8, length: usize, index: usize) -> Card;
     fn sgub_pool(file: *const u8, length: usize, id: u16) -> Pool;
-    fn sgub_pool_entry(file: *const u8, length: usize, directory_offset: u32, id: u16)
-    -> PoolEntry;
+    fn sgub_pools(file: *const u8, length: usize, pools: *mut PoolEntry, room: usize) -> Pools;
     fn sgub_start(file: *const u8, length: usize) -> Started;
     fn sgub_advance_vsync(
         player: *mut Player,
@@ -161,9 +168,9 @@ pub fn pool(file: &[u8], id: u16) -> Pool {
     unsafe { sgub_pool(file.as_ptr(), file.len(), id) }
 }
 
-pub fn pool_entry(file: &[u8], directory_offset: u32, id: u16) -> PoolEntry {
-    // SAFETY: pointer and length of one slice.
-    unsafe { sgub_pool_entry(file.as_ptr(), file.len(), directory_offset, id) }
+pub fn pools(file: &[u8], pools: &mut [PoolEntry]) -> Pools {
+    // SAFETY: pointer and length of one slice each.
+    unsafe { sgub_pools(file.as_ptr(), file.len(), pools.as_mut_ptr(), pools.len()) }
 }
 
 pub fn start(file: &[u8]) -> Started {
@@ -190,3 +197,5 @@ pub mod repack;
 
 #[cfg(test)]
 mod header;
+#[cfg(test)]
+mod library;

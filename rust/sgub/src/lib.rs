@@ -3,19 +3,17 @@
 //!
 //! The library is `crates/sgub` of this repository, and its contracts say what each function answers. This package only
 //! declares its C functions again and makes them safe to call; it decides nothing about a file. Every function takes any
-//! bytes. [`first_difference`] alone is not of the library: it says where two files differ that the library told apart.
+//! bytes.
 #![deny(unsafe_code)]
 #![warn(missing_docs)]
 
 mod comparison;
-mod difference;
 #[allow(unsafe_code)]
 mod ffi;
 mod player;
 mod repack;
 
 pub use comparison::{Comparison, IMAGE_SIZE, Side, compare};
-pub use difference::{Difference, first_difference};
 pub use player::{OtherFile, StreamPlayer, Vsync, WriteRecord};
 pub use repack::{LONGEST_RESULT, repack, repack_to_vec};
 
@@ -90,8 +88,8 @@ impl Card {
     }
 }
 
-impl From<ffi::Card> for Card {
-    fn from(card: ffi::Card) -> Self {
+impl From<ffi::CardRequirement> for Card {
+    fn from(card: ffi::CardRequirement) -> Self {
         Self {
             slot: card.slot,
             id_length: card.id_length,
@@ -113,7 +111,8 @@ pub struct Pool<'a> {
 }
 
 /// An entry of the pool directory.
-#[derive(Clone, Copy, Debug, PartialEq, Eq)]
+#[derive(Clone, Copy, Debug, Default, PartialEq, Eq)]
+#[repr(C)]
 pub struct PoolEntry {
     /// 1 wave, 2 PCM, 3 card.
     pub kind: u8,
@@ -146,18 +145,27 @@ pub fn check(file: &[u8]) -> Verdict {
     })
 }
 
-/// The card of an accepted file by its index; none from the card count on, and none of a refused file.
+/// The card of a file by its index; `None` from the card count on.
 ///
 /// The whole file is checked at each call.
-pub fn card(file: &[u8], index: usize) -> Option<Card> {
-    let card = ffi::card(file, index);
+///
+/// # Errors
+/// The refusal that [`check`] gives.
+pub fn card(file: &[u8], index: usize) -> Result<Option<Card>, Refusal> {
+    let found = ffi::card(file, index);
+    if let Some(refusal) = refusal(found.number, found.place) {
+        return Err(refusal);
+    }
     // The name of a card has at least one byte; the library answers 0 throughout where there is no card.
-    (card.id_length > 0).then(|| card.into())
+    Ok((found.card.id_length > 0).then(|| found.card.into()))
 }
 
 /// The pool of a file by its id; `None` where an accepted file has no such pool.
 ///
 /// The whole file is checked at each call.
+///
+/// # Errors
+/// The refusal that [`check`] gives.
 pub fn pool(file: &[u8], id: u16) -> Result<Option<Pool<'_>>, Refusal> {
     let pool = ffi::pool(file, id);
     if let Some(refusal) = refusal(pool.number, pool.place) {
@@ -169,17 +177,21 @@ pub fn pool(file: &[u8], id: u16) -> Result<Option<Pool<'_>>, Refusal> {
     }))
 }
 
-/// An entry of the pool directory as it stands, with nothing checked: for listing the pools of a file that [`check`]
-/// accepted, without checking it again for each.
+/// The pools of a file, by their ids from 0 on.
 ///
-/// A byte behind the file's end reads as 0.
-pub fn pool_entry(file: &[u8], directory_offset: u32, id: u16) -> PoolEntry {
-    let entry = ffi::pool_entry(file, directory_offset, id);
-    PoolEntry {
-        kind: entry.kind,
-        size: entry.size,
-        offset: entry.offset,
+/// The whole file is checked once.
+///
+/// # Errors
+/// The refusal that [`check`] gives.
+pub fn pools(file: &[u8]) -> Result<Vec<PoolEntry>, Refusal> {
+    // An accepted file has at most so many pools, and 16 bytes of directory for each.
+    let mut entries = vec![PoolEntry::default(); (file.len() / 16).min(65_536)];
+    let pools = ffi::pools(file, &mut entries);
+    if let Some(refusal) = refusal(pools.number, pools.place) {
+        return Err(refusal);
     }
+    entries.truncate(pools.count as usize);
+    Ok(entries)
 }
 
 fn refusal(number: u32, place: u64) -> Option<Refusal> {

@@ -1,6 +1,6 @@
 //! The wrapper's answers on the examples of the repository and on bytes that are none.
 
-use sgub::{Card, Header, PoolEntry, Refusal, Verdict};
+use sgub::{Card, Header, PoolEntry, Refusal, StreamPlayer, Verdict};
 use std::fs;
 use std::path::Path;
 
@@ -67,10 +67,11 @@ fn everything_about_a_file_of_version_4() {
         bulk_length: 0x8000,
         id: *b"SRC32-PCM\0\0\0\0\0\0\0",
     };
-    assert_eq!(sgub::card(&file, 0), Some(card));
-    assert_eq!(sgub::card(&file, 1).unwrap().name(), b"OPL");
+    assert_eq!(sgub::card(&file, 0), Ok(Some(card)));
+    let second = sgub::card(&file, 1).unwrap().unwrap();
+    assert_eq!(second.name(), b"OPL");
     for index in [2, 7, 8, usize::MAX] {
-        assert_eq!(sgub::card(&file, index), None);
+        assert_eq!(sgub::card(&file, index), Ok(None));
     }
     let pool = sgub::pool(&file, 1).unwrap().unwrap();
     assert_eq!(
@@ -80,33 +81,34 @@ fn everything_about_a_file_of_version_4() {
     assert!(std::ptr::eq(pool.payload, &file[416..420]));
     assert_eq!(sgub::pool(&file, 3), Ok(None));
     assert_eq!(sgub::pool(&file, u16::MAX), Ok(None));
-    let entry = PoolEntry {
-        kind: 2,
-        size: 4,
-        offset: 416,
-    };
-    assert_eq!(sgub::pool_entry(&file, header.directory_offset, 1), entry);
+    let pools = [(1, 256, 160), (2, 4, 416), (3, 16, 420)];
+    let entry = |(kind, size, offset)| PoolEntry { kind, size, offset };
+    assert_eq!(sgub::pools(&file).unwrap(), pools.map(entry));
 }
 
 #[test]
-fn a_refused_file_has_no_cards_and_no_pools() {
-    let file = example("refused-7.sgub");
-    assert_eq!(sgub::card(&file, 0), None);
-    let refusal = Refusal {
-        number: 7,
-        place: 80,
-    };
-    assert_eq!(sgub::pool(&file, 0), Err(refusal));
-    assert_eq!(sgub::card(&[], 0), None);
-    let nothing = PoolEntry {
-        kind: 0,
-        size: 0,
-        offset: 0,
-    };
-    assert_eq!(sgub::pool_entry(&[], u32::MAX, u16::MAX), nothing);
+fn each_function_gives_the_verdict_on_a_refused_file() {
+    let whole = example("cards-4.sgub");
+    for (file, number, place) in [
+        (&[][..], 1, 0),
+        (&example("refused-7.sgub"), 7, 80),
+        (&example("refused-16.sgub"), 16, 20),
+        (&whole[..whole.len() - 1], 8, 0),
+    ] {
+        let refusal = Refusal { number, place };
+        assert_eq!(sgub::check(file), Verdict::Refused(refusal));
+        assert_eq!(sgub::card(file, 0), Err(refusal));
+        assert_eq!(sgub::card(file, usize::MAX), Err(refusal));
+        assert_eq!(sgub::pool(file, 0), Err(refusal));
+        assert_eq!(sgub::pools(file), Err(refusal));
+        assert_eq!(StreamPlayer::start(file), Err(refusal));
+    }
 }
 
 #[test]
-fn a_file_of_version_1_has_no_pools() {
-    assert_eq!(sgub::pool(&example("tune-1.sgub"), 0), Ok(None));
+fn a_file_of_version_1_has_no_cards_and_no_pools() {
+    let file = example("tune-1.sgub");
+    assert_eq!(sgub::card(&file, 0), Ok(None));
+    assert_eq!(sgub::pool(&file, 0), Ok(None));
+    assert_eq!(sgub::pools(&file), Ok(Vec::new()));
 }

@@ -100,7 +100,7 @@ fn a_player_tells_of_its_file() {
     assert_eq!((player.frame_period(), player.uses_si22()), (800_000, true));
     let cards: Vec<_> = player.card_requirements().collect();
     let read: Vec<_> = (0..2)
-        .map(|index| sgub::card(&file, index).unwrap())
+        .map(|index| sgub::card(&file, index).unwrap().unwrap())
         .collect();
     assert_eq!(cards, read);
     assert_eq!(player.frame_index(), 0);

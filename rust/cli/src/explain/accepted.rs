@@ -5,18 +5,20 @@ use sgub::{Card, Header, PoolEntry};
 use std::ops::Range;
 
 /// Pools shown at each end of a list that is shortened.
-const ENDS: u32 = 8;
+const ENDS: usize = 8;
 
 /// The tables; with `all` every pool, however many there are.
 pub fn explain(file: &[u8], header: &Header, all: bool) -> String {
     let mut text = header_table(header);
     if header.card_count > 0 {
-        let cards = (0..usize::from(header.card_count)).filter_map(|index| sgub::card(file, index));
-        text += &card_table(cards);
+        let cards = (0..usize::from(header.card_count)).map(|index| sgub::card(file, index));
+        // The file is accepted, and has a card at each of these indices.
+        text += &card_table(cards.filter_map(|card| card.ok().flatten()));
     }
-    if header.pool_count > 0 {
-        let pool = |id: u32| sgub::pool_entry(file, header.directory_offset, id as u16);
-        text += &pool_table(header.pool_count, pool, all);
+    // The file is accepted.
+    let pools = sgub::pools(file).unwrap_or_default();
+    if !pools.is_empty() {
+        text += &pool_table(&pools, all);
     }
     text
 }
@@ -99,8 +101,9 @@ fn bulk_range(card: &Card) -> String {
     format!("0x{:07X} to 0x{last:07X}", card.bulk_start)
 }
 
-fn pool_table(count: u32, pool: impl Fn(u32) -> PoolEntry, all: bool) -> String {
-    let rows = |ids: Range<u32>| ids.map(|id| pool_row(id, pool(id))).collect::<String>();
+fn pool_table(pools: &[PoolEntry], all: bool) -> String {
+    let count = pools.len();
+    let rows = |ids: Range<usize>| ids.map(|id| pool_row(id, pools[id])).collect::<String>();
     let mut text = String::from("\nPools\n     id  kind      size    offset\n");
     // A list that would lose one row only is not shortened.
     if all || count <= 2 * ENDS + 1 {
@@ -114,7 +117,7 @@ fn pool_table(count: u32, pool: impl Fn(u32) -> PoolEntry, all: bool) -> String 
     text + &rows(count - ENDS..count)
 }
 
-fn pool_row(id: u32, PoolEntry { kind, size, offset }: PoolEntry) -> String {
+fn pool_row(id: usize, PoolEntry { kind, size, offset }: PoolEntry) -> String {
     let kind = kind_in_words(kind);
     format!("  {id:>5}  {kind:<4}  {size:>8}  {offset:>8}\n")
 }

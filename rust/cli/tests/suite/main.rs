@@ -1,7 +1,8 @@
-//! Runs the command and compares output and exit status, byte for byte.
+//! Runs the command and compares output and exit status, byte for byte; and the first differences that its library finds.
 
 mod check;
 mod compare;
+mod difference;
 mod explain;
 mod launcher;
 mod play;

@@ -9,7 +9,8 @@ use differential::packing::{Style, pack};
 use differential::pairs::{Change, Kind, Pairs};
 use differential::rng::Rng;
 use differential::shapes::Shape;
-use sgub::{Difference, Refusal, Side};
+use sgub::{Refusal, Side};
+use sgub_cli::Difference;
 
 fn example(name: &str) -> Vec<u8> {
     let mut all = examples::all().into_iter();

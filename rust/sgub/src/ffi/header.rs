@@ -3,9 +3,10 @@
 use super::comparison::Compared;
 use super::repack::Repacked;
 use super::{
-    Card, CardTable, Header, Player, Pool, PoolEntry, Progress, Started, Verdict, Vsync, WaveSource,
+    Card, CardRequirement, CardTable, Header, Player, Pool, Pools, Progress, Started, Verdict,
+    Vsync, WaveSource,
 };
-use crate::WriteRecord;
+use crate::{PoolEntry, WriteRecord};
 use std::mem::offset_of;
 use std::path::{Path, PathBuf};
 use std::process::Command;
@@ -36,7 +37,7 @@ fn size_of_field<S, F>(_: fn(&S) -> &F) -> usize {
     size_of::<F>()
 }
 
-fn layouts() -> [Layout; 14] {
+fn layouts() -> [Layout; 16] {
     [
         layout!(
             "sgub_verdict",
@@ -58,14 +59,22 @@ fn layouts() -> [Layout; 14] {
             }
         ),
         layout!(
-            "sgub_card",
-            Card {
+            "sgub_card_requirement",
+            CardRequirement {
                 slot,
                 id_length,
                 id_offset,
                 bulk_start,
                 bulk_length,
                 id,
+            }
+        ),
+        layout!(
+            "sgub_card",
+            Card {
+                number,
+                place,
+                card,
             }
         ),
         layout!(
@@ -79,6 +88,14 @@ fn layouts() -> [Layout; 14] {
             }
         ),
         layout!("sgub_pool_entry", PoolEntry { kind, size, offset }),
+        layout!(
+            "sgub_pools",
+            Pools {
+                number,
+                place,
+                count,
+            }
+        ),
         layout!(
             "sgub_header",
             Header {
@@ -175,7 +192,7 @@ fn program() -> String {
             text += &format!("HAS(sizeof(((struct {name} *)0)->{field}) == {size});\n");
         }
     }
-    text + FUNCTIONS + MAIN
+    text + CALLS
 }
 
 const HEAD: &str = "\
@@ -183,55 +200,8 @@ const HEAD: &str = "\
 #define HAS(what) _Static_assert(what, #what)
 ";
 
-/// The functions with the types that Rust gives them: C refuses a second declaration that is not the same.
-const FUNCTIONS: &str = "
-struct sgub_verdict sgub_check(const unsigned char *, unsigned long);
-struct sgub_card sgub_card(const unsigned char *, unsigned long, unsigned long);
-struct sgub_pool sgub_pool(const unsigned char *, unsigned long, unsigned short);
-struct sgub_pool_entry sgub_pool_entry(
-    const unsigned char *, unsigned long, unsigned int, unsigned short);
-struct sgub_started sgub_start(const unsigned char *, unsigned long);
-struct sgub_vsync sgub_advance_vsync(
-    struct sgub_player *, const unsigned char *, unsigned long, struct sgub_write *, unsigned long);
-struct sgub_repacked sgub_repack(const unsigned char *, unsigned long, unsigned char *, unsigned long);
-struct sgub_compared sgub_compare(
-    const unsigned char *, unsigned long, const unsigned char *, unsigned long,
-    unsigned char *, unsigned long, unsigned char *, unsigned long);
-";
-
-/// P3 of the format sheet, and P3 with another version.
-const MAIN: &str = "
-int main(void) {
-    uint8_t file[22] = {0x53, 0x47, 0x55, 0x42, 1, 16, 0, 0, 0, 0, 0, 1, 0, 0, 0, 0, 0, 0, 0, 22};
-    struct sgub_verdict verdict = sgub_check(file, sizeof file);
-    if (verdict.number != 0 || verdict.version != 1 || verdict.total_size != 22)
-        return 1;
-    uint8_t buffer[43] = {[42] = 0xA5};
-    struct sgub_repacked repacked = sgub_repack(file, sizeof file, buffer, 41);
-    if (repacked.number != 24 || repacked.size != 0 || buffer[0] != 0)
-        return 4;
-    repacked = sgub_repack(file, sizeof file, buffer, sizeof buffer);
-    if (repacked.number != 0 || repacked.size != 42 || buffer[4] != 2 || buffer[42] != 0xA5)
-        return 5;
-    static uint8_t images[2][SGUB_IMAGE_SIZE + 1];
-    struct sgub_compared compared = sgub_compare(
-        file, sizeof file, buffer, 42, images[0], SGUB_IMAGE_SIZE, images[1], SGUB_IMAGE_SIZE - 1);
-    if (compared.file != 2 || compared.number != 24 || compared.passed || images[0][0] != 0)
-        return 6;
-    compared = sgub_compare(
-        file, sizeof file, buffer, 42, images[0], SGUB_IMAGE_SIZE, images[1], SGUB_IMAGE_SIZE + 1);
-    if (compared.file != 0 || compared.number != 0 || compared.place != 0 || !compared.passed)
-        return 7;
-    if (images[0][0] != 0x80 || images[1][SGUB_IMAGE_SIZE - 1] != 0x80 || images[1][SGUB_IMAGE_SIZE] != 0)
-        return 8;
-    file[4] = 5;
-    verdict = sgub_check(file, sizeof file);
-    if (verdict.number != 3 || verdict.place != 0 || verdict.version != 0)
-        return 2;
-    struct sgub_pool pool = sgub_pool(file, sizeof file, 0);
-    return pool.number == 3 && pool.kind == 0 && pool.size == 0 ? 0 : 3;
-}
-";
+/// The functions as Rust declares them, and a program that calls them.
+const CALLS: &str = include_str!("header.c");
 
 /// Compiles a C program and links it with the library; `None` where there is no C compiler.
 fn compile(name: &str, text: &str) -> Option<Result<PathBuf, String>> {
@@ -263,69 +233,6 @@ fn the_header_has_these_declarations_and_c_can_call_the_library() {
     };
     let program = compiled.unwrap_or_else(|errors| panic!("{errors}"));
     assert_eq!(Command::new(program).status().unwrap().code(), Some(0));
-}
-
-/// The library itself has this layout: a player of version 4, unplayed and behind the first write of its second operation.
-#[test]
-fn the_library_has_these_declarations() {
-    let examples = Path::new(env!("CARGO_MANIFEST_DIR")).join("../../examples");
-    let file = fs::read(examples.join("cards-4.sgub")).unwrap();
-    let mut started = super::start(&file);
-    let verdict = super::check(&file);
-    let header = Header {
-        version: verdict.version,
-        repeat: verdict.repeats,
-        frame_period: verdict.frame_period,
-        card_count: verdict.card_count,
-        frame_count: verdict.frame_count,
-        pool_count: verdict.pool_count,
-        initial_count: verdict.initial_count,
-        directory_offset: verdict.directory_offset,
-        initial_start: verdict.initial_start,
-        frame_start: verdict.frame_start as usize,
-        total_size: verdict.total_size,
-    };
-    let unplayed = Player {
-        header,
-        cards: CardTable {
-            cards: std::array::from_fn(|index| super::card(&file, index)),
-            count: 2,
-        },
-        uses_si22: true,
-        progress: Progress {
-            part: 0,
-            cursor: header.frame_start,
-            operation_index: 0,
-            operation_count: 0,
-            write_index: 0,
-            frame_index: 0,
-            initialized: false,
-            finished: false,
-            wave_sources: [WaveSource {
-                copied: false,
-                pool: 0,
-            }; 16],
-        },
-    };
-    assert_eq!((started.number, started.place), (0, 0));
-    assert_eq!(started.player, unplayed);
-
-    // The opening begins with a COPY of a wave, 256 writes, which is 16 bytes long.
-    let mut run = [WriteRecord::default(); 258];
-    let vsync = super::advance_vsync(&mut started.player, &file, &mut run[..257]);
-    assert_eq!((vsync.number, vsync.count, vsync.complete), (0, 257, false));
-    let mut played = unplayed;
-    played.progress = Progress {
-        part: 1,
-        operation_index: 1,
-        operation_count: 4,
-        write_index: 1,
-        cursor: header.initial_start as usize + 16,
-        ..unplayed.progress
-    };
-    played.progress.wave_sources[1].copied = true;
-    assert_eq!(started.player, played);
-    assert_eq!(run[257], WriteRecord::default());
 }
 
 /// The comparison can fail: an offset off by one is refused, and so is a function with another parameter.

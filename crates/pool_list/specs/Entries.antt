@@ -1,0 +1,26 @@
+-- The entries of pools, and what is stored of them.
+use Prim.Native.Nat.{ℕ, zero, suc}
+use mathlib.Core.Bool.{cond}
+use mathlib.Core.List.{List, [], _∷_}
+use lib.Dec.{ltb}
+use lib.ListN.{length}
+use Rattle.format.specs.declared.pool.Pool.{Pool}
+use Rattle.format.specs.Lent.{stored}
+use Rattle.format.specs.Pool.{poolAt}
+use Rattle.pool_list.specs.declared.SgubPoolEntry.{SgubPoolEntry}
+
+abbrev pub entryFields : Pool → SgubPoolEntry
+entryFields pool = record { kind = pool .kind; size = pool .size; offset = pool .offset }
+
+-- so many entries from an id on
+unfoldable pub entriesFrom : List ℕ → (directory count id : ℕ) → List SgubPoolEntry
+entriesFrom file directory zero id = []
+entriesFrom file directory (suc count) id = entryFields (poolAt file directory id) ∷ entriesFrom file directory count (suc id)
+
+-- how many a run holds of them
+unfoldable pub fitting : (room count : ℕ) → ℕ
+fitting room count = cond (ltb room count) room count
+
+-- they stand at the run's front
+unfoldable pub entriesStored : List ℕ → (directory count : ℕ) → List SgubPoolEntry → List SgubPoolEntry
+entriesStored file directory count run = stored (entriesFrom file directory (fitting (length run) count) 0) run

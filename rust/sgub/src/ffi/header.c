@@ -1,0 +1,53 @@
+/* Behind the layouts, in the program that a test compiles. The functions have the types that Rust gives them: C refuses a second
+ * declaration that is not the same. */
+struct sgub_verdict sgub_check(const unsigned char *, unsigned long);
+struct sgub_card sgub_card(const unsigned char *, unsigned long, unsigned long);
+struct sgub_pool sgub_pool(const unsigned char *, unsigned long, unsigned short);
+struct sgub_pools sgub_pools(
+    const unsigned char *, unsigned long, struct sgub_pool_entry *, unsigned long);
+struct sgub_started sgub_start(const unsigned char *, unsigned long);
+struct sgub_vsync sgub_advance_vsync(
+    struct sgub_player *, const unsigned char *, unsigned long, struct sgub_write *, unsigned long);
+struct sgub_repacked sgub_repack(const unsigned char *, unsigned long, unsigned char *, unsigned long);
+struct sgub_compared sgub_compare(
+    const unsigned char *, unsigned long, const unsigned char *, unsigned long,
+    unsigned char *, unsigned long, unsigned char *, unsigned long);
+
+/* P3 of the format sheet, and P3 with another version. */
+int main(void) {
+    uint8_t file[22] = {0x53, 0x47, 0x55, 0x42, 1, 16, 0, 0, 0, 0, 0, 1, 0, 0, 0, 0, 0, 0, 0, 22};
+    struct sgub_verdict verdict = sgub_check(file, sizeof file);
+    if (verdict.number != 0 || verdict.version != 1 || verdict.total_size != 22)
+        return 1;
+    uint8_t buffer[43] = {[42] = 0xA5};
+    struct sgub_repacked repacked = sgub_repack(file, sizeof file, buffer, 41);
+    if (repacked.number != 24 || repacked.size != 0 || buffer[0] != 0)
+        return 4;
+    repacked = sgub_repack(file, sizeof file, buffer, sizeof buffer);
+    if (repacked.number != 0 || repacked.size != 42 || buffer[4] != 2 || buffer[42] != 0xA5)
+        return 5;
+    static uint8_t images[2][SGUB_IMAGE_SIZE + 1];
+    struct sgub_compared compared = sgub_compare(
+        file, sizeof file, buffer, 42, images[0], SGUB_IMAGE_SIZE, images[1], SGUB_IMAGE_SIZE - 1);
+    if (compared.file != 2 || compared.number != 24 || compared.passed || images[0][0] != 0)
+        return 6;
+    compared = sgub_compare(
+        file, sizeof file, buffer, 42, images[0], SGUB_IMAGE_SIZE, images[1], SGUB_IMAGE_SIZE + 1);
+    if (compared.file != 0 || compared.number != 0 || compared.place != 0 || !compared.passed)
+        return 7;
+    if (images[0][0] != 0x80 || images[1][SGUB_IMAGE_SIZE - 1] != 0x80 || images[1][SGUB_IMAGE_SIZE] != 0)
+        return 8;
+    file[4] = 5;
+    verdict = sgub_check(file, sizeof file);
+    if (verdict.number != 3 || verdict.place != 0 || verdict.version != 0)
+        return 2;
+    struct sgub_card card = sgub_card(file, sizeof file, 0);
+    if (card.number != 3 || card.place != 0 || card.card.id_length != 0)
+        return 9;
+    struct sgub_pool_entry entry = {0xA5, 0, 0};
+    struct sgub_pools pools = sgub_pools(file, sizeof file, &entry, 1);
+    if (pools.number != 3 || pools.place != 0 || pools.count != 0 || entry.kind != 0xA5)
+        return 10;
+    struct sgub_pool pool = sgub_pool(file, sizeof file, 0);
+    return pool.number == 3 && pool.kind == 0 && pool.size == 0 ? 0 : 3;
+}
