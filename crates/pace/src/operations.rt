@@ -36,7 +36,8 @@ pub fn pace(
     room: usize,
     progress: Progress,
 ) -> Paced
-    ensures { λ r. ⌜ (paceOf r ≡ as25 (paced state (now (file .entry)) limit (operationsLeft progress) room progress)) × (r .room ≤ room) × (r .refused ≡ true → (r .room ≡ 0) × (r .progress ≡ progress)) ⌝ }
+    ensures { λ r. ⌜ (paceOf r ≡ as25 (paced state (now (file .entry)) limit (operationsLeft progress) room progress))
+        × (r .room ≤ room) × (r .refused ≡ true → (r .room ≡ 0) × (r .progress ≡ progress)) ⌝ }
 {
     let mut waves = progress.wave_sources;
     let mut cursor = progress.cursor;

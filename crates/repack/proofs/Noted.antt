@@ -25,7 +25,8 @@ use Rattle.repack.specs.Measured.{Notes, notes, notesWith, notesOver, No
 -- ---- a use
 
 module _ {file places spots numbers : List ℕ} {waves uses : ℕ} (n : Noted file places spots numbers waves uses) where
-  module _ {at : ℕ} {heads next heads′ next′ places′ : List ℕ} {waves′ number : ℕ} (a : Added file heads next places waves at heads′ next′ places′ waves′ number) (room : uses < 11468) (low : number ≤ 11468) where
+  module _ {at : ℕ} {heads next heads′ next′ places′ : List ℕ} {waves′ number : ℕ} (a : Added file heads next places waves at heads′ next′ places′ waves′ number)
+      (room : uses < 11468) (low : number ≤ 11468) where
     pub noted-more : Noted file places′ (set spots uses at) (set numbers uses number) waves′ (uses + 1)
     noted-more =
         let known = wavesIn file places waves in

@@ -101,7 +101,8 @@ pub fn measure_frames(
     spots: &mut [u32; SPOTS],
     numbers: &mut [u16; MOST],
 ) -> Measure
-    requires { ⌜ Table (now file) (now heads) (now next) (now places) 0 × Noted (now file) (now places) (now spots) (now numbers) 0 0 × (framesEnd (now file) count start ≤ length (now file)) × (length (now file) ≤ fileLimit) ⌝ }
+    requires { ⌜ Table (now file) (now heads) (now next) (now places) 0 × Noted (now file) (now places) (now spots) (now numbers) 0 0
+        × (framesEnd (now file) count start ≤ length (now file)) × (length (now file) ≤ fileLimit) ⌝ }
     ensures { λ r. ⌜ Measured (now (file .entry)) start count (now (places .exit)) (now (spots .exit)) (now (numbers .exit)) (r .waves) (r .uses) (r .size)
         × (notes (now (heads .exit)) (now (next .exit)) (now (places .exit)) (r .waves) (now (spots .exit)) (now (numbers .exit)) (r .uses)
         ≡ notesOver (now (file .entry)) (notes (now (heads .entry)) (now (next .entry)) (now (places .entry)) 0 (now (spots .entry)) (now (numbers .entry)) 0)

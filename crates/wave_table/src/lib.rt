@@ -75,7 +75,8 @@ pub fn add_wave(
     places: &mut [u32; MOST],
 ) -> Numbered
     requires { ⌜ Table (now file) (now heads) (now next) (now places) count × (at + waveRecordsSize ≤ length (now file)) × (count * waveRecordsSize ≤ at) × (length (now file) ≤ fileLimit) ⌝ }
-    ensures { λ r. ⌜ Added (now (file .entry)) (now (heads .entry)) (now (next .entry)) (now (places .entry)) count at (now (heads .exit)) (now (next .exit)) (now (places .exit)) (r .waves) (r .number) ⌝ }
+    ensures { λ r. ⌜ Added (now (file .entry)) (now (heads .entry)) (now (next .entry)) (now (places .entry)) count at
+        (now (heads .exit)) (now (next .exit)) (now (places .exit)) (r .waves) (r .number) ⌝ }
 {
     let bucket = bucket(file, at);
     let number = wave_number(file, at, bucket, count, heads, next, places);

@@ -25,8 +25,11 @@ loop-holds c = (omega arith, c .operations-left .ensures .1, rw (c .operations-l
 returns : tie.Need-returns Inv-loop μ-loop
 returns c =
     let l = c .before .before .before .before in
-    let a = l .before .before .before .before .args in
-    (rw (l .loop .inv .2, c .answer .ensures, c .before .placed .ensures, c .before .before .if1 .taken, paced-full (a .state) (a .file .now) (a .limit) (l .loop .left)), rw (c .answer .ensures) (omega arith), rw (c .answer .ensures) (λ e. absurd (false≢true e)))
+    let a = l .before .before .before .before .args in (
+      rw (l .loop .inv .2, c .answer .ensures, c .before .placed .ensures, c .before .before .if1 .taken, paced-full (a .state) (a .file .now) (a .limit) (l .loop .left)),
+      rw (c .answer .ensures) (omega arith),
+      rw (c .answer .ensures) (λ e. absurd (false≢true e)),
+    )
 
 returns-2 : tie.Need-returns-2 Inv-loop μ-loop
 returns-2 c =
@@ -76,8 +79,11 @@ returns-4 : tie.Need-returns-4 Inv-loop μ-loop
 returns-4 c =
     let l = c .before .before .before in
     let a = l .before .before .before .before .args in
-    let none : l .loop .left ≡ 0 = omega arith in
-    (rw (l .loop .inv .2, c .answer4 .ensures, c .before .placed3 .ensures, none, paced-end (a .state) (a .file .now) (a .limit) (l .loop .free)), rw (c .answer4 .ensures) (omega arith), rw (c .answer4 .ensures) (λ e. absurd (false≢true e)))
+    let none : l .loop .left ≡ 0 = omega arith in (
+      rw (l .loop .inv .2, c .answer4 .ensures, c .before .placed3 .ensures, none, paced-end (a .state) (a .file .now) (a .limit) (l .loop .free)),
+      rw (c .answer4 .ensures) (omega arith),
+      rw (c .answer4 .ensures) (λ e. absurd (false≢true e)),
+    )
 
 pub pace-spec : {M : Type 1} → statement M
 pace-spec =
