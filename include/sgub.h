@@ -109,7 +109,7 @@ struct sgub_card_table {
     size_t count;
 };
 
-/* The pool that was last copied to a channel of a core, if any was. */
+/* The pool that was last copied to a channel of a core, if any was; sgub_wave_source gives it. */
 struct sgub_wave_source {
     bool copied;
     uint16_t pool; /* 0 if none was */
@@ -130,8 +130,7 @@ struct sgub_progress {
 
 /* A player: what its start recorded, then its progress. The questions of the original are reads: its version is header.version,
  * frame_count header.frame_count, repeats header.repeat, frame_period header.frame_period, card_requirements cards, uses_si22
- * uses_si22, frame_index progress.frame_index, is_finished progress.finished, and wave_source of core 0 to 1 and channel 0 to 7
- * progress.wave_sources[8 * core + channel]. */
+ * uses_si22, frame_index progress.frame_index, is_finished progress.finished; wave_source is sgub_wave_source. */
 struct sgub_player {
     struct sgub_header header;
     struct sgub_card_table cards;
@@ -158,6 +157,7 @@ struct sgub_write {
 /* What a call of sgub_advance_vsync did. */
 struct sgub_vsync {
     uint32_t number; /* 0, or 25: player and file do not belong together, and nothing was changed */
+    uint64_t place;  /* 0: the place of 25 */
     size_t count;    /* writes at the front of the run */
     bool complete;   /* no write of this vsync is left */
 };
@@ -167,6 +167,9 @@ struct sgub_vsync {
  * 0 may have any pointer but NULL. Player, file and run do not overlap. */
 struct sgub_vsync sgub_advance_vsync(struct sgub_player *player, const uint8_t *file, size_t length, struct sgub_write *run,
                                      size_t count);
+
+/* The pool last copied to a channel of a core by the player, with the COPY's first write; none outside of 2 cores and 8 channels. */
+struct sgub_wave_source sgub_wave_source(struct sgub_player player, size_t core, size_t channel);
 
 /* The answer of repacking. */
 struct sgub_repacked {

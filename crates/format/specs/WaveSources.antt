@@ -1,5 +1,5 @@
--- `wave_source`: "the pool last copied by a kind 1 COPY to that core and address div 256, set with its first write". The kind is that of
--- the stream's pool, and a moment of playing is a number of vsyncs that are over and a number of writes of the next.
+-- `wave_source`: "the pool last copied by a kind 1 COPY" to a channel of a core, "set with its first write". The kind is that of the
+-- stream's pool, and a moment of playing is a number of vsyncs that are over and a number of writes of the next.
 use Prim.Native.Nat.{ℕ, zero, suc, _-_, _/_}
 use mathlib.Core.Bool.{cond, _&&_}
 use mathlib.Core.List.{List, [], _∷_, _++_}
@@ -12,7 +12,7 @@ use Rattle.format.specs.Pool.{Payload, noPool}
 use Rattle.format.specs.Stream.{Stream}
 use Rattle.format.specs.Writes.{writesOf, vsyncOperations}
 
--- the pool that a channel of a core has behind an operation: a kind 1 COPY to it sets it, and all else leaves it
+-- the pool that a channel of a core has behind an operation: a kind 1 COPY "to that core and address div 256" sets it, and all else leaves it
 unfoldable pub copiedBy : List Payload → (core channel : ℕ) → Operation → Option ℕ → Option ℕ
 copiedBy pools core channel (Write target address value) last = last
 copiedBy pools core channel (Fill target address size value) last = last

@@ -1,4 +1,4 @@
--- The pools of a file, listed: "refused" files have none.
+-- What a listing of pools says of a file, and what it leaves in the lent run: a refused file has none.
 use Prim.Native.Nat.{ℕ}
 use mathlib.Core.List.{List}
 use Rattle.format.specs.Checked.{Checked, ok, refused}

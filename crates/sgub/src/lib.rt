@@ -12,6 +12,7 @@ pub use comparison::sgub_compare;
 pub use play::SgubStarted;
 pub use play::sgub_advance_vsync;
 pub use play::sgub_start;
+pub use play::sgub_wave_source;
 pub use pools::sgub_pools;
 pub use repack::sgub_repack;
 ghost use mathlib.Core.Path.{_≡_};

@@ -1,14 +1,17 @@
 // The player for C and Rust: its start, and one vsync call over a lent state, file and run.
 use format::StreamPlayer;
 use format::Verdict;
+use format::WaveSource;
 use format::WriteRecord;
 use player::Vsync;
+use wave_source::CopiedPool;
+use wave_source::wave_source;
 ghost use mathlib.Core.Path.{_≡_};
-ghost use Rattle.format.specs.State.{started};
+ghost use Rattle.format.specs.State.{started, waveSource};
 ghost use Rattle.format.specs.Stream.{read};
 ghost use Rattle.start.specs.Start.{verdictOn};
 ghost use Rattle.planned_vsync.specs.Vsync.{Advanced};
-ghost use Rattle.sgub.specs.Play.{startFields};
+ghost use Rattle.sgub.specs.Play.{startFields, sourceFields};
 
 // The verdict on a file, and the player's state; that of a refused file is finished.
 #[repr(C)]
@@ -42,7 +45,7 @@ pub extern "C" fn sgub_start(file: &[u8]) -> SgubStarted
     }
 }
 
-// `advance_vsync` itself. A refused call changes nothing.
+// `advance_vsync` itself, under its exported name. A refused call changes nothing.
 #[no_mangle]
 pub extern "C" fn sgub_advance_vsync(
     player: &mut StreamPlayer,
@@ -52,4 +55,21 @@ pub extern "C" fn sgub_advance_vsync(
     ensures { λ r. ⌜ Advanced (now (player .entry)) (now (file .entry)) (now (run .entry)) r (now (player .exit)) (now (run .exit)) ⌝ }
 {
     player::advance_vsync(player, file, run)
+}
+
+// The pool last copied to a channel of a core, as the state holds it; not copied, and 0, where none was and outside of 2 × 8.
+#[no_mangle]
+pub extern "C" fn sgub_wave_source(player: StreamPlayer, core: usize, channel: usize) -> WaveSource
+    ensures { λ r. ⌜ r ≡ sourceFields (waveSource player core channel) ⌝ }
+{
+    match wave_source(player, core, channel) {
+        CopiedPool::None => WaveSource {
+            copied: false,
+            pool: 0,
+        },
+        CopiedPool::Pool(id) => WaveSource {
+            copied: true,
+            pool: id,
+        },
+    }
 }

@@ -7,7 +7,7 @@ use crate::generate::{Choice, Family, Generator};
 use crate::oracle::{self, Vsync};
 use crate::rng::Rng;
 use crate::weight;
-use sgub::{OtherFile, StreamPlayer, WriteRecord};
+use sgub::{StreamPlayer, WriteRecord};
 
 /// The longest file that is stored.
 const LONGEST: usize = 2048;
@@ -196,7 +196,7 @@ impl<'a> Playing<'a> {
             other[place] = change.value;
             let mut run = vec![WriteRecord::default(); room];
             let told = self.player.clone().advance_vsync(&other, &mut run);
-            if told == Err(OtherFile) {
+            if told.is_err() {
                 self.refused(length, room, change)?;
                 let value = self.own[place];
                 return Ok(Change { place, value });

@@ -2,7 +2,7 @@
 
 use crate::oracle::{self, Vsync};
 use crate::rng::Rng;
-use sgub::{OtherFile, StreamPlayer, WriteRecord};
+use sgub::{Refusal, StreamPlayer, WriteRecord};
 
 /// Run lengths that are drawn from.
 const RUNS: &[usize] = &[0, 0, 1, 2, 7, 7, 64, 64, 64, 300, 1000, 4096];
@@ -12,6 +12,12 @@ const UNTOUCHED: WriteRecord = WriteRecord {
     target: 0xEE,
     address: 0xEEEE_EEEE,
     value: 0xEE,
+};
+
+/// The refusal of a call with a file that is not the player's.
+const OTHER_FILE: Refusal = Refusal {
+    number: 25,
+    place: 0,
 };
 
 /// What was compared.
@@ -118,7 +124,7 @@ impl Comparison {
                 self.vsync.writes.len() + self.vsync.device_writes.len() - (writes + device_writes);
             let told = player
                 .advance_vsync(file, &mut self.run[..room])
-                .map_err(|OtherFile| String::from("the library refuses its own file"))?;
+                .map_err(|refusal| format!("the library refuses its own file: {refusal}"))?;
             let count = left.min(room);
             if (told.count, told.complete) != (count, left == count) {
                 return Err(format!("{left} left, {room} records: library {told:?}"));
@@ -157,7 +163,7 @@ impl Comparison {
         let told = player.advance_vsync(file, &mut self.run[..room]);
         let same = match told {
             Ok(vsync) => player.is_finished() && vsync.count == 0 && vsync.complete,
-            Err(OtherFile) => !player.is_finished(),
+            Err(refusal) => refusal == OTHER_FILE && !player.is_finished(),
         };
         if !same || *player != before {
             return Err(format!("a foreign file: library {told:?}, {before:?}"));

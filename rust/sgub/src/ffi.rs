@@ -131,6 +131,7 @@ pub struct Started {
 #[repr(C)]
 pub struct Vsync {
     pub number: u32,
+    pub place: u64,
     pub count: usize,
     pub complete: bool,
 }
@@ -151,6 +152,7 @@ unsafe extern "C" {
         run: *mut WriteRecord,
         count: usize,
     ) -> Vsync;
+    fn sgub_wave_source(player: Player, core: usize, channel: usize) -> WaveSource;
 }
 
 pub fn check(file: &[u8]) -> Verdict {
@@ -190,6 +192,11 @@ pub fn advance_vsync(player: &mut Player, file: &[u8], run: &mut [WriteRecord]) 
             run.len(),
         )
     }
+}
+
+pub fn wave_source(player: Player, core: usize, channel: usize) -> WaveSource {
+    // SAFETY: all is passed by value.
+    unsafe { sgub_wave_source(player, core, channel) }
 }
 
 pub mod comparison;

@@ -14,8 +14,11 @@ mod player;
 mod repack;
 
 pub use comparison::{Comparison, IMAGE_SIZE, Side, compare};
-pub use player::{OtherFile, StreamPlayer, Vsync, WriteRecord};
+pub use player::{StreamPlayer, Vsync, WriteRecord};
 pub use repack::{LONGEST_RESULT, repack, repack_to_vec};
+
+use std::error::Error;
+use std::fmt;
 
 /// The verdict on a file.
 #[derive(Clone, Copy, Debug, PartialEq, Eq)]
@@ -26,14 +29,23 @@ pub enum Verdict {
     Refused(Refusal),
 }
 
-/// Why a file is refused, as the format sheet's list has it.
+/// Why a file or a call is refused, as the format sheet's list has it. It is displayed as the command prints it,
+/// `refused NUMBER PLACE`.
 #[derive(Clone, Copy, Debug, PartialEq, Eq)]
 pub struct Refusal {
-    /// The number of the refusal: 1 to 20, and for repacking and comparing up to 24.
+    /// The number of the refusal: 1 to 20, for repacking and comparing up to 24, and 25 for a vsync call.
     pub number: u32,
     /// The place that the sheet gives for this number; at most the file's length.
     pub place: usize,
 }
+
+impl fmt::Display for Refusal {
+    fn fmt(&self, f: &mut fmt::Formatter<'_>) -> fmt::Result {
+        write!(f, "refused {} {}", self.number, self.place)
+    }
+}
+
+impl Error for Refusal {}
 
 /// What the header of an accepted file says, and whether its operations use target 11.
 #[derive(Clone, Copy, Debug, PartialEq, Eq)]
@@ -194,6 +206,7 @@ pub fn pools(file: &[u8]) -> Result<Vec<PoolEntry>, Refusal> {
     Ok(entries)
 }
 
+#[inline]
 fn refusal(number: u32, place: u64) -> Option<Refusal> {
     (number > 0).then_some(Refusal {
         number,

@@ -1,8 +1,6 @@
 //! The player.
 
 use crate::{Card, Refusal, ffi, refusal};
-use std::error::Error;
-use std::fmt;
 
 /// One write that playing makes.
 #[derive(Clone, Copy, Debug, Default, PartialEq, Eq, Hash)]
@@ -24,19 +22,6 @@ pub struct Vsync {
     /// Whether no write of this vsync is left, so that the next call begins the next vsync.
     pub complete: bool,
 }
-
-/// The refusal of a call, number 25 of the format sheet: the player and the file do not belong together. Player and run
-/// are as they were.
-#[derive(Clone, Copy, Debug, PartialEq, Eq)]
-pub struct OtherFile;
-
-impl fmt::Display for OtherFile {
-    fn fmt(&self, f: &mut fmt::Formatter<'_>) -> fmt::Result {
-        f.write_str("the player and the file do not belong together")
-    }
-}
-
-impl Error for OtherFile {}
 
 /// The player of a stream file. It keeps no part of the file, which is lent again to each call.
 ///
@@ -84,21 +69,22 @@ impl StreamPlayer {
     ///
     /// # Errors
     ///
-    /// The file is not the player's. With the player's own file this never happens, and a finished player takes any file.
+    /// Refusal 25 at place 0: the player and the file do not belong together, and player and run are as they were. With the
+    /// player's own file this never happens, and a finished player takes any file.
     #[inline]
     pub fn advance_vsync(
         &mut self,
         file: &[u8],
         run: &mut [WriteRecord],
-    ) -> Result<Vsync, OtherFile> {
+    ) -> Result<Vsync, Refusal> {
         let vsync = ffi::advance_vsync(&mut self.0, file, run);
-        if vsync.number > 0 {
-            return Err(OtherFile);
+        match refusal(vsync.number, vsync.place) {
+            Some(refusal) => Err(refusal),
+            None => Ok(Vsync {
+                count: vsync.count,
+                complete: vsync.complete,
+            }),
         }
-        Ok(Vsync {
-            count: vsync.count,
-            complete: vsync.complete,
-        })
     }
 
     /// Format version, 1 to 4.
@@ -144,10 +130,7 @@ impl StreamPlayer {
 
     /// The wave pool last copied to a channel of a core; none where none was, and none outside of 2 cores with 8 channels.
     pub fn wave_source(&self, core: usize, channel: usize) -> Option<u16> {
-        if core > 1 || channel > 7 {
-            return None;
-        }
-        let source = self.0.progress.wave_sources[8 * core + channel];
+        let source = ffi::wave_source(self.0, core, channel);
         source.copied.then_some(source.pool)
     }
 }

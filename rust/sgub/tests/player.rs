@@ -1,6 +1,6 @@
 //! The wrapper's player on the examples of the repository.
 
-use sgub::{OtherFile, Refusal, StreamPlayer, Vsync, WriteRecord};
+use sgub::{Refusal, StreamPlayer, Vsync, WriteRecord};
 use std::fs;
 use std::path::Path;
 
@@ -85,12 +85,15 @@ fn another_file_is_refused_and_changes_nothing() {
     let mut records = run(64);
     player.advance_vsync(&file, &mut records).unwrap();
     let before = (player.clone(), records.clone());
+    let refusal = Refusal {
+        number: 25,
+        place: 0,
+    };
     for other in [&[][..], &file[1..], &example("tune-2.sgub")] {
-        assert_eq!(player.advance_vsync(other, &mut records), Err(OtherFile));
+        assert_eq!(player.advance_vsync(other, &mut records), Err(refusal));
         assert_eq!((&player, &records), (&before.0, &before.1));
     }
-    let message = OtherFile.to_string();
-    assert_eq!(message, "the player and the file do not belong together");
+    assert_eq!(refusal.to_string(), "refused 25 0");
 }
 
 #[test]

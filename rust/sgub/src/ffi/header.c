@@ -8,6 +8,7 @@ struct sgub_pools sgub_pools(
 struct sgub_started sgub_start(const unsigned char *, unsigned long);
 struct sgub_vsync sgub_advance_vsync(
     struct sgub_player *, const unsigned char *, unsigned long, struct sgub_write *, unsigned long);
+struct sgub_wave_source sgub_wave_source(struct sgub_player, unsigned long, unsigned long);
 struct sgub_repacked sgub_repack(const unsigned char *, unsigned long, unsigned char *, unsigned long);
 struct sgub_compared sgub_compare(
     const unsigned char *, unsigned long, const unsigned char *, unsigned long,
@@ -37,6 +38,14 @@ int main(void) {
         return 7;
     if (images[0][0] != 0x80 || images[1][SGUB_IMAGE_SIZE - 1] != 0x80 || images[1][SGUB_IMAGE_SIZE] != 0)
         return 8;
+    struct sgub_started started = sgub_start(file, sizeof file);
+    struct sgub_vsync vsync = sgub_advance_vsync(&started.player, buffer, 42, &(struct sgub_write){0}, 1);
+    if (vsync.number != 25 || vsync.place != 0 || vsync.count != 0 || vsync.complete)
+        return 11;
+    started.player.progress.wave_sources[11] = (struct sgub_wave_source){true, 777};
+    struct sgub_wave_source source = sgub_wave_source(started.player, 1, 3);
+    if (!source.copied || source.pool != 777 || sgub_wave_source(started.player, 3, 0).copied)
+        return 12;
     file[4] = 5;
     verdict = sgub_check(file, sizeof file);
     if (verdict.number != 3 || verdict.place != 0 || verdict.version != 0)

@@ -157,6 +157,7 @@ fn layouts() -> [Layout; 16] {
             "sgub_vsync",
             Vsync {
                 number,
+                place,
                 count,
                 complete,
             }

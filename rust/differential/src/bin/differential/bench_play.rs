@@ -119,7 +119,7 @@ fn library(file: &[u8], records: usize) -> Result<(Duration, u64), String> {
             let vsync = player.advance_vsync(file, &mut run)?;
             writes += black_box(&run[..vsync.count]).len() as u64;
         }
-        Ok::<u64, sgub::OtherFile>(writes)
+        Ok::<u64, sgub::Refusal>(writes)
     });
     Ok((time, writes.map_err(|error| error.to_string())?))
 }
