@@ -13,4 +13,3 @@ pub mod RepackedOpening
 pub mod Repacked
 pub mod Written
 pub mod Reading
-pub mod Foreign
