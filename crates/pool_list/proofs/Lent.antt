@@ -1,6 +1,6 @@
 -- What `store_pools` is lent, the facts of a turn of its loop, the contracts of its callees, and what it owes at its end.
 use mathlib.Core.Path.{_≡_, refl, sym, ap, subst}
-use Prim.Native.Nat.{ℕ, _<_, _≤_, _^_, _+_, _*_, _-_}
+use Prim.Native.Nat.{ℕ, _<_, _≤_, _^_, _+_, _*_, _-_, min}
 use native.Mathlib.Numerals.{add-one-le}
 use native.Mathlib.Omega.{arith}
 use mathlib.Core.WellFounded.{WellFounded, InvImage·wf}
@@ -35,8 +35,8 @@ use denote.Exit.{yes}
 use denote.Signature.{plain}
 use Rattle.format.specs.Pool.{poolAt}
 use Rattle.pool_list.specs.declared.SgubPoolEntry.{SgubPoolEntry}
-use Rattle.pool_list.specs.Entries.{fitting, entryFields, entriesStored}
-use Rattle.pool_list.proofs.Stored.{fitting-least, pasted, pasted-long, stored-long}
+use Rattle.pool_list.specs.Entries.{entryFields, entriesStored}
+use Rattle.pool_list.proofs.Stored.{pasted, pasted-long, stored-long}
 use Rattle.pool_list.proofs.SgubPoolEntry as T
 use Rattle.pool_list.proofs.fitting as fi
 use Rattle.pool_list.proofs.nth_entry as ne
@@ -125,7 +125,7 @@ module _ (x : Lent) where
 
   -- how many entries, the list after i turns, and the list at exit
   abbrev pub n : ℕ
-  n = fitting (length (x .ys)) (x .cnt)
+  n = min (length (x .ys)) (x .cnt)
 
   abbrev pub ps : ℕ → List SgubPoolEntry
   ps i = pasted (x .bs) (x .dir) (x .cnt) (x .ys) i
@@ -148,7 +148,7 @@ module _ (x : Lent) where
 
   module _ (i : Upto) (less : i .0 < n) where
     pub inside : i .0 < length (x .ys)
-    inside = omega (arith, less, fitting-least (length (x .ys)) (x .cnt) .0)
+    inside = omega (arith, less)
 
     pub i-fits : i .0 < 2 ^ 64
     i-fits = omega (arith, inside, x .room .0)
@@ -160,7 +160,7 @@ module _ (x : Lent) where
     bytes-fit = omega (arith, inside, x .room .1)
 
     pub id-fits : i .0 < 2 ^ 32
-    id-fits = omega (arith, less, fitting-least (length (x .ys)) (x .cnt) .1, x .cnt-fits)
+    id-fits = omega (arith, less, x .cnt-fits)
 
     pub inside-now : i .0 < length (ps (i .0))
     inside-now = subst (λ (k : ℕ). i .0 < k) (sym (pasted-long (x .bs) (x .dir) (x .cnt) (x .ys) (i .0) (i .1))) inside
@@ -177,8 +177,8 @@ module _ {M : Type 1} (𝓤 : URA M) (H : Heap 𝓤) (A : Atoms 𝓤) (mem : Mem
   abbrev pub Nth : Contract 𝓤
   Nth = tripleOf 𝓤 H A ne.signature (ne.spec 𝓤 H A mem run)
 
-  pub said : (room cnt : ℕ) (r : ℕ) → ent 𝓤 (ensured 𝓤 H A fi.ended (fi.clauses 𝓤 H A mem run) tt (room, (cnt, tt)) tt r) (fact 𝓤 (r ≡ fitting room cnt))
-  said room cnt r = exE 𝓤 _ (λ ws. snd∗ 𝓤 (sem 𝓤 H A (lasts fi.ended tt (room, (cnt, tt)) ws)) (fact 𝓤 (r ≡ fitting room cnt)))
+  pub said : (room cnt : ℕ) (r : ℕ) → ent 𝓤 (ensured 𝓤 H A fi.ended (fi.clauses 𝓤 H A mem run) tt (room, (cnt, tt)) tt r) (fact 𝓤 (r ≡ min room cnt))
+  said room cnt r = exE 𝓤 _ (λ ws. snd∗ 𝓤 (sem 𝓤 H A (lasts fi.ended tt (room, (cnt, tt)) ws)) (fact 𝓤 (r ≡ min room cnt)))
 
   pub said-nth : (κ : Lft) (f : RefT (List ℕ)) (dir i : ℕ) (r : SgubPoolEntry)
       → ent 𝓤 (ensured 𝓤 H A ne.ended (ne.clauses 𝓤 H A mem run) (κ, tt) (f, (dir, (i, tt))) tt r) (fact 𝓤 (r ≡ entryFields (poolAt (f .now) dir i)))

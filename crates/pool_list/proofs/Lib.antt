@@ -1,3 +1,3 @@
 pub mod Listed
-pub mod Stored
-pub mod Lent
+mod Lent
+mod Stored

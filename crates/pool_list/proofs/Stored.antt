@@ -1,28 +1,14 @@
 -- Laws of the entries that are stored: how many they are, each of them, and the run after some turns of the loop.
-use Prim.Native.Nat.{ℕ, zero, suc, _+_, _≤_, _<_}
-use mathlib.Core.Bool.{Bool, true, false, cond}
+use Prim.Native.Nat.{ℕ, zero, suc, _+_, _≤_, _<_, min}
 use mathlib.Core.List.{List}
 use mathlib.Core.Path.{_≡_, refl, sym, ap, _∙_}
 use native.Mathlib.Nat.{zero-add}
 use native.Mathlib.Omega.{arith}
-use borrow.Author.Tests.{ltb-true, ltb-false}
-use lib.Dec.{ltb}
 use lib.ListN.{length, getD, set}
 use Rattle.format.specs.Pool.{poolAt}
 use Rattle.format.proofs.Lent as front
 use Rattle.pool_list.specs.declared.SgubPoolEntry.{SgubPoolEntry}
-use Rattle.pool_list.specs.Entries.{entryFields, entriesFrom, fitting, entriesStored}
-
--- HOW MANY
-
--- no more than the run holds, and no more than there are
-pub fitting-least : (room count : ℕ) → (fitting room count ≤ room) × (fitting room count ≤ count)
-unfolding fitting
-fitting-least room count = go (ltb room count) refl
-  where
-    go : (b : Bool) → ltb room count ≡ b → (cond b room count ≤ room) × (cond b room count ≤ count)
-    go true e = (omega arith, omega (arith, ltb-true room count e))
-    go false e = (ltb-false room count e, omega arith)
+use Rattle.pool_list.specs.Entries.{entryFields, entriesFrom, entriesStored}
 
 -- EACH OF THEM
 
@@ -42,13 +28,13 @@ entry-at file directory (suc n) id (suc i) d less =
 
 module _ (file : List ℕ) (directory count : ℕ) (run : List SgubPoolEntry) where
   abbrev n : ℕ
-  n = fitting (length run) count
+  n = min (length run) count
 
   abbrev entries : List SgubPoolEntry
   entries = entriesFrom file directory n 0
 
   fits : length entries ≤ length run
-  fits = omega (arith, entries-long file directory n 0, fitting-least (length run) count .0)
+  fits = omega (arith, entries-long file directory n 0)
 
   abbrev pub pasted : (i : ℕ) → List SgubPoolEntry
   pasted i = front.pasted entries run i

@@ -1,8 +1,6 @@
 -- The entries of pools, and what is stored of them.
-use Prim.Native.Nat.{ℕ, zero, suc}
-use mathlib.Core.Bool.{cond}
+use Prim.Native.Nat.{ℕ, zero, suc, min}
 use mathlib.Core.List.{List, [], _∷_}
-use lib.Dec.{ltb}
 use lib.ListN.{length}
 use Rattle.format.specs.declared.pool.Pool.{Pool}
 use Rattle.format.specs.Lent.{stored}
@@ -17,10 +15,6 @@ unfoldable pub entriesFrom : List ℕ → (directory count id : ℕ) → List Sg
 entriesFrom file directory zero id = []
 entriesFrom file directory (suc count) id = entryFields (poolAt file directory id) ∷ entriesFrom file directory count (suc id)
 
--- how many a run holds of them
-unfoldable pub fitting : (room count : ℕ) → ℕ
-fitting room count = cond (ltb room count) room count
-
--- they stand at the run's front
+-- they stand at the run's front, as many as it holds
 unfoldable pub entriesStored : List ℕ → (directory count : ℕ) → List SgubPoolEntry → List SgubPoolEntry
-entriesStored file directory count run = stored (entriesFrom file directory (fitting (length run) count) 0) run
+entriesStored file directory count run = stored (entriesFrom file directory (min (length run) count) 0) run

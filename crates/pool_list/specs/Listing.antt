@@ -2,7 +2,7 @@
 use Prim.Native.Nat.{ℕ}
 use mathlib.Core.List.{List}
 use Rattle.format.specs.Checked.{Checked, ok, refused}
-use Rattle.file_check.specs.Answer.{Recorded, recorded}
+use Rattle.file_check.specs.Answer.{Recorded}
 use Rattle.pool_list.specs.Entries.{entriesStored}
 use Rattle.pool_list.specs.declared.SgubPoolEntry.{SgubPoolEntry}
 use Rattle.pool_list.specs.declared.listing.PoolListing.{PoolListing}
@@ -19,6 +19,6 @@ listingOn (ok found) = record { answer = poolsOn (ok found); directory = found .
 listingOn (refused number place) = record { answer = poolsOn (refused number place); directory = 0; count = 0 }
 
 -- the lent run behind the listing: an accepted file's entries stand at its front, as many as it holds; a refusal writes nothing
-abbrev pub runAfter : List ℕ → Checked Recorded → List SgubPoolEntry → List SgubPoolEntry
-runAfter file (ok found) run = entriesStored file (found .header .«directory_offset») (found .header .«pool_count») run
-runAfter file (refused number place) run = run
+abbrev pub poolsAfter : List ℕ → Checked Recorded → List SgubPoolEntry → List SgubPoolEntry
+poolsAfter file (ok found) run = entriesStored file (found .header .«directory_offset») (found .header .«pool_count») run
+poolsAfter file (refused number place) run = run

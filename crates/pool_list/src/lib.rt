@@ -1,14 +1,15 @@
 // Lists the pools of a file into a lent run of entries, stored straight from the directory.
 mod listing;
 
+use big_endian::smaller;
 pub use listing::PoolListing;
 pub use listing::SgubPools;
 pub use listing::pool_listing;
 use pool_entry::read_pool;
 ghost use mathlib.Core.Path.{_≡_};
-ghost use Prim.Native.Nat.{_<_, _^_};
+ghost use Prim.Native.Nat.{_<_, _^_, min};
 ghost use Rattle.format.specs.Pool.{poolAt};
-ghost use Rattle.pool_list.specs.Entries.{fitting, entryFields, entriesStored};
+ghost use Rattle.pool_list.specs.Entries.{entryFields, entriesStored};
 
 // An entry of the directory.
 #[repr(C)]
@@ -20,12 +21,9 @@ pub struct SgubPoolEntry {
 
 // How many entries are stored: all of them, or as many as the run holds.
 fn fitting(room: usize, count: u32) -> usize
-    ensures { λ r. ⌜ r ≡ fitting room count ⌝ }
+    ensures { λ r. ⌜ r ≡ min room count ⌝ }
 {
-    if room < count as usize {
-        return room;
-    }
-    count as usize
+    smaller(room, count as usize)
 }
 
 // The entry of a pool by its id.

@@ -5,12 +5,12 @@ use pool_list::pool_listing;
 use pool_list::store_pools;
 ghost use mathlib.Core.Path.{_≡_};
 ghost use Rattle.file_check.specs.Answer.{recorded};
-ghost use Rattle.pool_list.specs.Listing.{poolsOn, runAfter};
+ghost use Rattle.pool_list.specs.Listing.{poolsOn, poolsAfter};
 
 // As many entries as the run holds, from id 0 on; records behind them stay as they were, and all of them where the file is refused.
 #[no_mangle]
 pub extern "C" fn sgub_pools(file: &[u8], pools: &mut [SgubPoolEntry]) -> SgubPools
-    ensures { λ r. ⌜ (r ≡ poolsOn (recorded (now (file .entry)) .0)) × (now (pools .exit) ≡ runAfter (now (file .entry)) (recorded (now (file .entry)) .0) (now (pools .entry))) ⌝ }
+    ensures { λ r. ⌜ (r ≡ poolsOn (recorded (now (file .entry)) .0)) × (now (pools .exit) ≡ poolsAfter (now (file .entry)) (recorded (now (file .entry)) .0) (now (pools .entry))) ⌝ }
 {
     let listing = pool_listing(file);
     store_pools(pools, file, listing.directory, listing.count);

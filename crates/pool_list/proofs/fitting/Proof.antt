@@ -1,16 +1,7 @@
--- `fitting` meets its contract: its test is the definition's.
-use borrow.Author.Tests.{lt-ltb, le-ltb}
-use Rattle.pool_list.specs.Entries.{fitting}
+-- `fitting` meets its contract: it is the smaller of the two.
+use borrow.Author.Needs.{needs}
 use Rattle.pool_list.proofs.fitting.Statement.{statement}
 use Rattle.pool_list.proofs.fitting.Tie as tie
 
-returns : tie.Need-returns
-unfolding fitting
-returns c = rw (lt-ltb _ _ (c .if1 .taken))
-
-returns-2 : tie.Need-returns-2
-unfolding fitting
-returns-2 c = rw (le-ltb _ _ (c .if1 .left))
-
 pub fitting-spec : {M : Type 1} → statement M
-fitting-spec = tie.close (tie.spec returns returns-2)
+fitting-spec = tie.close (tie.spec (search needs) (λ c. c .smaller .ensures .0))

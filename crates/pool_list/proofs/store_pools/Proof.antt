@@ -1,7 +1,7 @@
 -- `store_pools` meets its contract: a walk of its MIR, by hand. The covered `fitting` says how many entries are stored, and the covered `nth_entry` gives each;
 -- the run's borrow is opened once, before the loop, and closed once, after it, and after i turns the run begins with the first i entries.
 use mathlib.Core.Path.{_≡_, refl, sym, _∙_, ap, subst}
-use Prim.Native.Nat.{ℕ, _<_, _-_, zero-le}
+use Prim.Native.Nat.{ℕ, _<_, zero-le}
 use native.Mathlib.Nat.{le-antisymm}
 use native.Mathlib.Numerals.{add-one-dec}
 use mathlib.Core.List.{[], _∷_, List}
