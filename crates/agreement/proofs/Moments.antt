@@ -15,12 +15,11 @@ use Rattle.format.specs.declared.operation.WriteRecord.{WriteRecord}
 use Rattle.format.specs.declared.player.Progress.{Progress}
 use Rattle.format.specs.declared.player.StreamPlayer.{StreamPlayer}
 use Rattle.format.specs.declared.player.WaveSource.{WaveSource}
-use Rattle.format.specs.Checked.{ok}
 use Rattle.format.specs.Header.{headerOf}
 use Rattle.format.specs.Listener.{answers, reached, completed, underWay}
 use Rattle.format.specs.Promises.{WaveSourceIs}
 use Rattle.format.specs.State.{noWave, poolIn, unplayed, playerOf, started, waveSource}
-use Rattle.format.specs.Stream.{Stream, read}
+use Rattle.format.specs.Stream.{Stream}
 use Rattle.format.specs.WaveSources.{lastCopied, begun, operationsBefore, waveSourceAt}
 use Rattle.format.specs.Writes.{writesOfAll, frameWrites, vsync, vsyncOperations}
 use Rattle.format.proofs.Accepted.{Accepted, accepted}

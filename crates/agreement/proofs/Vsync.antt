@@ -5,7 +5,7 @@ use mathlib.Core.List.{List, []}
 use mathlib.Core.Path.{_≡_, refl, sym, ap, subst, _∙_}
 use native.Mathlib.Omega.{arith}
 use borrow.Author.Tests.{le-ltb, lt-ltb}
-use lib.Dec.{leb, ltb, leb·zero}
+use lib.Dec.{ltb, leb·zero}
 use lib.ListN.{length}
 use lib.Seq.{take-nil}
 use Rattle.format.specs.declared.player.NextPart.{NextPart}
@@ -22,7 +22,6 @@ use Rattle.format.specs.State.{partOf, unplayed, playerOf, startedAs, started}
 use Rattle.format.specs.Stream.{Stream, read}
 use Rattle.format.specs.Writes.{closing, vsync}
 use Rattle.format.proofs.Accepted.{Accepted, HeaderOk, accepted, header-ok}
-use Rattle.format.proofs.Checks.{ok-is}
 use Rattle.agreement.proofs.Heard.{Goes}
 use Rattle.agreement.proofs.Course.{wavesBefore}
 use Rattle.agreement.proofs.Phases.{Inside, Ahead, Over, Phase, at-start-of-all, at-opening, at-frame, at-between, at-closing, at-over, Holds, belongs-own}

@@ -7,7 +7,7 @@ returns : tie.Need-returns
 returns c = rw (← (c .before .before .wave-source .ensures), c .enum-told .given .1)
 
 returns-2 : tie.Need-returns-2
-returns-2 c = rw (← (c .before .before .wave-source .ensures), c .id .given .1)
+returns-2 c = rw (← (c .before .before .before .wave-source .ensures), c .before .id .given .1)
 
 pub sgub-wave-source-spec : {M : Type 1} → statement M
-sgub-wave-source-spec = tie.close (tie.spec (search needs) returns returns-2)
+sgub-wave-source-spec = tie.close (tie.spec (search needs) (search needs) (search needs) returns returns-2)
