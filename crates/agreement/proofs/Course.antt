@@ -82,7 +82,8 @@ pub record Along (file : List ℕ) (s : Stream) (c : Course) (writes : ℕ) (ope
   pub sources : waves ≡ wavesByAll file (done ++ halfDone writes operations) (c .first)
 
 -- where the part begins
-pub along-first : (file : List ℕ) (s : Stream) (c : Course) (operations : List Operation) (waves : List WaveSource) → c .all ≡ operations ++ c .later → waves ≡ c .first → Along file s c 0 operations waves
+pub along-first : (file : List ℕ) (s : Stream) (c : Course) (operations : List Operation) (waves : List WaveSource) → c .all ≡ operations ++ c .later → waves ≡ c .first
+    → Along file s c 0 operations waves
 unfolding wavesByAll
 along-first file s c operations waves is e = record { done = []; is = is; some = tt; sources = rw (half-none operations) e }
 
@@ -110,15 +111,18 @@ module _ (file : List ℕ) (s : Stream) (c : Course) (writes : ℕ) (operation :
   -- all of them are
   pub along-onward : 0 < length (writesOf (s .pools) operation) → Along file s c 0 more after
   along-onward some =
+      let none-half : a .done ++ (operation ∷ []) ++ halfDone 0 more ≡ a .done ++ (operation ∷ []) =
+      ap (λ (l : List Operation). a .done ++ (operation ∷ []) ++ l) (half-none more) ∙ append-nil (a .done ++ (operation ∷ [])) in
       record {
         done = a .done ++ (operation ∷ []);
         is = a .is ∙ sym (append-assoc (a .done) (operation ∷ []) (more ++ c .later));
         some = some-more s (a .done) operation (a .some) some;
-        sources = with-it ∙ ap (λ (l : List Operation). wavesByAll file l (c .first)) (sym (ap (λ (l : List Operation). a .done ++ (operation ∷ []) ++ l) (half-none more) ∙ append-nil (a .done ++ (operation ∷ []))));
+        sources = with-it ∙ ap (λ (l : List Operation). wavesByAll file l (c .first)) (sym none-half);
       }
 
 -- the part is done, and the next one begins
-pub along-later : (file : List ℕ) (s : Stream) (k : ℕ) (later : List Operation) (writes : ℕ) (waves : List WaveSource) → Along file s (courseOf file s k later) writes [] waves → Along file s (courseOf file s k []) 0 later waves
+pub along-later : (file : List ℕ) (s : Stream) (k : ℕ) (later : List Operation) (writes : ℕ) (waves : List WaveSource) → Along file s (courseOf file s k later) writes [] waves
+    → Along file s (courseOf file s k []) 0 later waves
 along-later file s k later writes waves a =
     record {
       done = a .done;
@@ -144,7 +148,8 @@ unfolding begun writesOfAll
 begun-through s [] more n all = rw (zero-add n)
 begun-through s (operation ∷ done) more n all =
     let count = length-append (writesOf (s .pools) operation) (writesOfAll (s .pools) done) in
-    let some : eqb (length (writesOf (s .pools) operation ++ writesOfAll (s .pools) done) + n) 0 ≡ false = ne-eqb _ 0 (λ (e : length (writesOf (s .pools) operation ++ writesOfAll (s .pools) done) + n ≡ 0). omega (arith, count, all .0)) in
+    let here : ℕ = length (writesOf (s .pools) operation ++ writesOfAll (s .pools) done) + n in
+    let some : eqb here 0 ≡ false = ne-eqb here 0 (λ (e : here ≡ 0). omega (arith, count, all .0)) in
     let rest : length (writesOf (s .pools) operation ++ writesOfAll (s .pools) done) + n - length (writesOf (s .pools) operation) ≡ length (writesOfAll (s .pools) done) + n = omega (arith, count) in
     rw (some, rest, begun-through s done more n (all .1))
 

@@ -289,7 +289,8 @@ onward-to file s limit end (suc left) cursor operations e =
     omega (arith, is .onward)
 
 -- with no operation left the cursor is at the end, and the part of the course is done
-pub at-end : (file : List ℕ) (s : Stream) (limit end cursor writes : ℕ) (pending : List WriteRecord) (waves : List WaveSource) (course : Course) → At file s limit end 0 cursor writes pending waves course → (cursor ≡ end) × Along file s course writes [] waves
+pub at-end : (file : List ℕ) (s : Stream) (limit end cursor writes : ℕ) (pending : List WriteRecord) (waves : List WaveSource) (course : Course)
+    → At file s limit end 0 cursor writes pending waves course → (cursor ≡ end) × Along file s course writes [] waves
 unfolding operationsFrom
 at-end file s limit end cursor writes pending waves course at =
     let none = ok-is (at .from) in

@@ -63,7 +63,8 @@ module _ (file : List ℕ) (s : Stream) where
       subst (λ (m : ℕ). p .«wave_sources» ≡ wavesAt m n) (sym (inOpening .first))
       (at-part _ _ _ _ _ (inOpening .pending) (p .«wave_sources») 0 n (getD (s .frames) 0 []) (inOpening .at) (first-whole s) (ap (λ (m : ℕ). n + m) (sym long) ∙ first))
 
-  phase-waves : Accepted file (headerOf file) s → (p : Progress) (k : ℕ) (rest : List WriteRecord) (n : ℕ) → Phase file s p k rest → n + length rest ≡ length (vsync s k) → p .«wave_sources» ≡ wavesAt k n
+  phase-waves : Accepted file (headerOf file) s → (p : Progress) (k : ℕ) (rest : List WriteRecord) (n : ℕ) → Phase file s p k rest
+      → n + length rest ≡ length (vsync s k) → p .«wave_sources» ≡ wavesAt k n
   unfolding unplayed wavesBefore begun writesOfAll
   phase-waves acc p k rest n (at-start-of-all e first is) made =
       let started : p .«wave_sources» ≡ wavesBefore file s k = ap (λ (p : Progress). p .«wave_sources») e ∙ ap (wavesBefore file s) (sym first) in
@@ -97,7 +98,9 @@ module _ (file : List ℕ) (s : Stream) where
       ∙ ap (wavesByAll file (begun (s .pools) n (vsyncOperations s k))) (before-is k) ∙ waves-append file (operationsBefore s k) (begun (s .pools) n (vsyncOperations s k)) (replicate 16 noWave)
 
   all-made : Accepted file (headerOf file) s → (k n : ℕ) → AllKept file s (made k n)
-  all-made acc k n = kept-append file s (operationsBefore s k) (begun (s .pools) n (vsyncOperations s k)) (before-kept file s acc k) (kept-begun file s n (vsyncOperations s k) (vsync-kept file s acc k))
+  all-made acc k n =
+      kept-append file s (operationsBefore s k) (begun (s .pools) n (vsyncOperations s k)) (before-kept file s acc k)
+      (kept-begun file s n (vsyncOperations s k) (vsync-kept file s acc k))
 
   nothing-yet : (core channel : ℕ) → core < 2 → channel < 8 → poolIn (getD (replicate 16 noWave) (core * 8 + channel) noWave) ≡ none
   nothing-yet core channel low few = ap poolIn (getD-replicate 16 (core * 8 + channel) noWave noWave (omega arith))
@@ -120,5 +123,6 @@ pub wave-source : WaveSourceIs
 wave-source file s reads calls admissible core channel =
     let left = from-start file s reads calls admissible in
     let k : ℕ = completed (answers (started file) calls) in
-    let total : length (underWay (answers (started file) calls)) + length (left .rest′) ≡ length (vsync s (0 + k)) = sym (length-append (underWay (answers (started file) calls)) (left .rest′)) ∙ ap length (left .first refl) in
-    rw (zero-add k) at (source-is file s (accepted file s reads .0) (reached (started file) calls) (0 + k) (left .rest′) (length (underWay (answers (started file) calls))) (left .holds) total core channel)
+    let current : List WriteRecord = underWay (answers (started file) calls) in
+    let total : length current + length (left .rest′) ≡ length (vsync s (0 + k)) = sym (length-append current (left .rest′)) ∙ ap length (left .first refl) in
+    rw (zero-add k) at (source-is file s (accepted file s reads .0) (reached (started file) calls) (0 + k) (left .rest′) (length current) (left .holds) total core channel)

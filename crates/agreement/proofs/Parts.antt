@@ -57,7 +57,16 @@ module _ (file : List ℕ) (s : Stream) (acc : Accepted file (headerOf file) s) 
       let none : took .left′ ≡ 0 = eqb-true _ _ (done-is file s (length file) (inFrame .end) (took .left′) (took .cursor) (took .writes) room rest (took .waves) (courseOf file s k []) (took .at) ∙ e) in
       let ended = at-end file s (length file) (inFrame .end) (took .cursor) (took .writes) (drop room rest) (took .waves) (courseOf file s k []) (rw none at (took .at)) in (
         record { cursor = omega (arith, ended .0); frames = inside .frames; operations = omega arith },
-        at-between (record { part = refl; going = refl; initialized = refl; more = inFrame .more; begun = inFrame .begun; ahead = rw (ended .0) (inFrame .ahead); sources = along-whole file s k (took .writes) (took .waves) (ended .1); is = refl }),
+        at-between (record {
+          part = refl;
+          going = refl;
+          initialized = refl;
+          more = inFrame .more;
+          begun = inFrame .begun;
+          ahead = rw (ended .0) (inFrame .ahead);
+          sources = along-whole file s k (took .writes) (took .waves) (ended .1);
+          is = refl;
+        }),
       )
   frame-settles q p k rest room inFrame inside took false e =
       let within = frames-onward file s (inFrame .more) (inFrame .end) _ (length file) (inFrame .ahead .later) in
@@ -215,7 +224,8 @@ module _ (file : List ℕ) (s : Stream) (acc : Accepted file (headerOf file) s) 
         going = refl;
         left = headerOf file .«initial_count»;
         pending = openingWrites s;
-        at = at-start file s acc _ (headerOf file .«frame_start») (headerOf file .«initial_count») (headerOf file .«initial_start») (s .opening) (acc .opening) (p .«wave_sources») firstCourse (first-along file s (p .«wave_sources») sources);
+        at = at-start file s acc _ (headerOf file .«frame_start») (headerOf file .«initial_count») (headerOf file .«initial_start») (s .opening) (acc .opening) (p .«wave_sources») firstCourse
+            (first-along file s (p .«wave_sources») sources);
         counted = omega arith;
         first = refl;
         is = refl;

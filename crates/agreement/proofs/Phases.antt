@@ -180,7 +180,8 @@ pub record Begins (file : List ℕ) (s : Stream) (k frame more cursor : ℕ) : T
   pub next : ℕ
   pub counts : (p : Progress) → frameBegun file cursor frame p ≡ ok (frameStart file cursor frame p)
   pub within : cursor + 2 ≤ length file
-  pub at : (waves : List WaveSource) (course : Course) → Along file s course 0 (getD (s .frames) frame []) waves → At file s (length file) next (be 2 file cursor) (cursor + 2) 0 (frameWrites s frame) waves course
+  pub at : (waves : List WaveSource) (course : Course) → Along file s course 0 (getD (s .frames) frame []) waves
+      → At file s (length file) next (be 2 file cursor) (cursor + 2) 0 (frameWrites s frame) waves course
   pub ahead : Ahead file s (suc k) (frame + 1) more next
 
 pub begins : (file : List ℕ) (s : Stream) → Accepted file (headerOf file) s → (k frame more cursor : ℕ) → Ahead file s k frame (suc more) cursor → Begins file s k frame more cursor
@@ -243,7 +244,8 @@ unfolding vsync
 vsync-frame file s acc k frame more cursor ahead = frame-turn file s acc k frame more cursor ahead (frameWrites s) _
 
 -- its operations
-frame-operations : (file : List ℕ) (s : Stream) → Accepted file (headerOf file) s → (k frame more cursor : ℕ) → Ahead file s (suc k) frame (suc more) cursor → vsyncOperations s (suc k) ≡ getD (s .frames) frame []
+frame-operations : (file : List ℕ) (s : Stream) → Accepted file (headerOf file) s → (k frame more cursor : ℕ) → Ahead file s (suc k) frame (suc more) cursor
+    → vsyncOperations s (suc k) ≡ getD (s .frames) frame []
 unfolding vsyncOperations
 frame-operations file s acc k frame more cursor ahead = frame-turn file s acc k frame more cursor ahead (λ (n : ℕ). getD (s .frames) n []) []
 

@@ -77,7 +77,8 @@ module _ (file : List ℕ) (s : Stream) (acc : Accepted file (headerOf file) s) 
   operations-kept limit (suc left) cursor found e =
       let step = operation-step (own file s) file limit left cursor found e in
       let is = item-is (own file s) file limit cursor (step .item) (step .here) in
-      subst (λ (x : List Operation × ℕ). AllKept file s (x .0)) (step .is) (kept (is .place) (step .item .operation) (is .fine), operations-kept limit left (step .item .next) (step .others) (step .from))
+      subst (λ (x : List Operation × ℕ). AllKept file s (x .0)) (step .is)
+      (kept (is .place) (step .item .operation) (is .fine), operations-kept limit left (step .item .next) (step .others) (step .from))
 
   frames-kept : (count cursor : ℕ) (found : List (List Operation) × ℕ) → framesFrom (own file s) file count cursor ≡ ok found → (k : ℕ) → AllKept file s (getD (found .0) k [])
   unfolding framesFrom
@@ -88,7 +89,8 @@ module _ (file : List ℕ) (s : Stream) (acc : Accepted file (headerOf file) s) 
       nothing (suc k) = tt
   frames-kept (suc count) cursor found e k =
       let step = frame-step (own file s) file count cursor found e in
-      subst (λ (x : List (List Operation) × ℕ). AllKept file s (getD (x .0) k [])) (step .is) (go (step .frame .0) (step .others .0) k (operations-kept (length file) _ _ (step .frame) (step .here)) (frames-kept count (step .frame .1) (step .others) (step .from)))
+      subst (λ (x : List (List Operation) × ℕ). AllKept file s (getD (x .0) k [])) (step .is)
+      (go (step .frame .0) (step .others .0) k (operations-kept (length file) _ _ (step .frame) (step .here)) (frames-kept count (step .frame .1) (step .others) (step .from)))
     where
       go : (frame : List Operation) (others : List (List Operation)) (k : ℕ) → AllKept file s frame → ((k : ℕ) → AllKept file s (getD others k [])) → AllKept file s (getD (frame ∷ others) k [])
       go frame others zero first more = first
@@ -106,7 +108,9 @@ module _ (file : List ℕ) (s : Stream) (acc : Accepted file (headerOf file) s) 
       either false x y h h′ = h′
 
       go : (k : ℕ) → AllKept file s (vsyncOperations s k)
-      go zero = kept-append file s (s .opening) _ (operations-kept _ (headerOf file .«initial_count») (headerOf file .«initial_start») (s .opening, headerOf file .«frame_start») (acc .opening)) (frame 0)
+      go zero =
+          kept-append file s (s .opening) _
+          (operations-kept _ (headerOf file .«initial_count») (headerOf file .«initial_start») (s .opening, headerOf file .«frame_start») (acc .opening)) (frame 0)
       go (suc k) = either (s .repeat) _ _ (frame (suc k % length (s .frames))) (either (ltb (suc k) (length (s .frames))) _ _ (frame (suc k)) tt)
 
   pub before-kept : (k : ℕ) → AllKept file s (operationsBefore s k)

@@ -1,5 +1,4 @@
 -- `wave_source::pool_in` meets its contract: the branch is that of `poolIn`.
-use borrow.Author.Needs.{needs}
 use Rattle.wave_source.proofs.pool_in.Statement.{statement}
 use Rattle.wave_source.proofs.pool_in.Tie as tie
 
