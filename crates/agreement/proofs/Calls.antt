@@ -207,7 +207,7 @@ module _ (file : List ℕ) (s : Stream) (accepted : read file ≡ ok s) where
   unfolding completed answers
   no-calls state = refl
 
-  -- "with n ≥ 1 records, W writes take W/n calls rounded up, at least one"
+  -- as many calls as `callsFor` says complete the vsync, and fewer do not
   rounds : (calls : List Call) → AllAdmissible file (started file) calls → begunNoFurther (answers (started file) calls) ≡ true → (room : ℕ) → 0 < room → let writes =
       length (vsync s (completed (answers (started file) calls))) in (completed (answers (reached (started file) calls) (sameCalls file room (callsFor writes room))) ≡ 1)
       × ((count : ℕ) → count < callsFor writes room → completed (answers (reached (started file) calls) (sameCalls file room count)) ≡ 0)

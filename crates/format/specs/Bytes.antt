@@ -1,4 +1,4 @@
--- "Numbers in files are unsigned, highest byte first; uN has N bits." A width counts bytes, so that 3- and 4-byte addresses are one
+-- Numbers of a file, "unsigned, highest byte first". A width counts bytes, so that 3- and 4-byte addresses are one
 -- definition.
 use Prim.Native.Nat.{ℕ, zero, suc, _+_, _*_, _/_, _%_, _<_}
 use mathlib.Core.Bool.{Bool, true, false, _&&_}

@@ -17,7 +17,7 @@ letters = 0x53475542
 unfoldable pub headerSize : (version : ℕ) → ℕ
 headerSize version = cond (eqb version 4) 48 (cond (eqb version 2 || eqb version 3) 40 20)
 
--- version 1: "u32 frame count at 8, opening records at 12, total size at 16". The opening starts behind the header, and the frames
+-- version 1: "u32 frame count at 8", then the opening records and the total size. The opening starts behind the header, and the frames
 -- behind its records of 5 bytes; the directory is empty
 unfoldable pub plainHeader : List ℕ → Header
 plainHeader file =
@@ -62,7 +62,7 @@ pooledHeader version file =
 unfoldable pub headerOf : List ℕ → Header
 headerOf file = cond (eqb (byte file 4) 1) (plainHeader file) (pooledHeader (byte file 4) file)
 
--- "a pooled header's size field, reserved bytes or card count (at most 8) is wrong": the size field is at 36, byte 39 is 0; version
+-- a pooled header's "size field, reserved bytes or card count (at most 8) is wrong": the size field is at 36, byte 39 is 0; version
 -- 4 has 0 in bytes 44 to 47, versions 2 and 3 have 0 in byte 38
 unfoldable pub reservedWrong : (version : ℕ) → List ℕ → Bool
 reservedWrong version file =
@@ -70,7 +70,7 @@ reservedWrong version file =
     || not (eqb (byte file 39) 0)
     || cond (eqb version 4) (ltb 8 (byte file 38) || not (eqb (be 4 file 44) 0)) (not (eqb (byte file 38) 0))
 
--- "byte 6 (1 means repeat) exceeds 1, byte 7 is not 0, or" a pooled header is wrong (5)
+-- byte 6 "exceeds 1", "byte 7 is not 0", or a pooled header is wrong (5)
 unfoldable pub flagsWrong : (version : ℕ) → List ℕ → Bool
 flagsWrong version file =
     ltb 1 (byte file 6) || not (eqb (byte file 7) 0) || not (eqb version 1) && reservedWrong version file

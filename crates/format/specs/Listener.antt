@@ -25,7 +25,7 @@ abbrev pub after : StreamPlayer → Checked Played → StreamPlayer
 after state (ok answer) = answer .next
 after state (refused number place) = state
 
--- "each call in its list gets that state as the call before left it"
+-- each call gets the state "as the call before left it"
 unfoldable pub answers : StreamPlayer → List Call → List (Checked Played)
 answers state [] = []
 answers state (c ∷ calls) = call state (c .file) (c .room) ∷ answers (after state (call state (c .file) (c .room))) calls
@@ -39,7 +39,7 @@ reached state (c ∷ calls) = reached (after state (call state (c .file) (c .roo
 abbrev pub sameCalls : List ℕ → (room count : ℕ) → List Call
 sameCalls file room count = replicate count (record { file = file; room = room })
 
--- "and that file, or any bytes if 25 refuses them or the state is finished"
+-- a call gets the player's own file, or "any bytes if 25 refuses them or the state is finished"
 pub data Admissible (own : List ℕ) (state : StreamPlayer) (c : Call) : Type 0 where
   ownFile : c .file ≡ own → Admissible own state c
   refusedFile : call state (c .file) (c .room) ≡ refused 25 0 → Admissible own state c
@@ -85,7 +85,7 @@ underWayFrom current (ok answer ∷ more) = cond (answer .complete) (underWayFro
 abbrev pub underWay : List (Checked Played) → List WriteRecord
 underWay = underWayFrom []
 
--- "with n ≥ 1 records, W writes take W/n calls rounded up, at least one"
+-- so many writes take "W/n calls rounded up, at least one"
 unfoldable pub callsFor : (writes room : ℕ) → ℕ
 callsFor writes room = max 1 ((writes + (room - 1)) / room)
 
@@ -102,7 +102,7 @@ pub record Listener : Type 0 where
   pub current : List WriteRecord
   pub pcm : List ℕ
 
--- "none at first, and PCM memory, at first 1,048,576 bytes of 0x80"
+-- no vsync's writes "at first", and PCM memory of "1,048,576 bytes of 0x80"
 unfoldable pub newListener : Listener
 newListener = record { ended = []; current = []; pcm = replicate pcmSize 0x80 }
 

@@ -39,7 +39,7 @@ pub record Item : Type 0 where
 unfoldable pub addressWidth : (version : ℕ) → ℕ
 addressWidth version = cond (leb version 2) 3 4
 
--- "the lengths 6, 10, 15 and 7, 11, 16 form one fixed table": WRITE, FILL and COPY, first with addresses of 3 bytes, then of 4
+-- the lengths, which "form one fixed table": WRITE, FILL and COPY, first with addresses of 3 bytes, then of 4
 abbrev pub sizes : List ℕ
 sizes = 6 ∷ 10 ∷ 15 ∷ 7 ∷ 11 ∷ 16 ∷ []
 

@@ -135,7 +135,7 @@ playFrame state file room p = do
   let done = eqb (operationsLeft (taken .progress)) 0
   ok (record { records = taken .records; complete = done; next = moved state (cond done (frameEnded (taken .progress)) (taken .progress)) })
 
--- "the frame count after an opening is read by the call that finishes the opening"
+-- frame 1's count is read "by the call that finishes the opening"
 unfoldable pub playOpening : StreamPlayer → List ℕ → (room : ℕ) → Progress → Checked Played
 playOpening state file room p = do
   taken ← gathered state file (openingLimit (state .header) file) (operationsLeft p) room p
@@ -180,7 +180,7 @@ abbrev pub as25 : {A : Type 0} → Checked A → Checked A
 as25 (ok a) = ok a
 as25 (refused number place) = refused 25 0
 
--- "a vsync call on a finished state reads no file and never gives 25"
+-- a call on a finished state "reads no file and never gives 25"
 unfoldable pub call : StreamPlayer → (file : List ℕ) → (room : ℕ) → Checked Played
 call state file room =
     cond (state .progress .finished) (ok (record { records = []; complete = true; next = state }))

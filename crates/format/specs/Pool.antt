@@ -15,7 +15,7 @@ abbrev pub poolAt : List ℕ → (directory id : ℕ) → Pool
 poolAt file directory id =
     record { kind = byte file (directory + id * entrySize + 2); size = be 4 file (directory + id * entrySize + 4); offset = be 4 file (directory + id * entrySize + 12) }
 
--- "kind 3: version 3 up to 0x400000, version 4 up to 0x2000000"; version 2 has none
+-- kind 3, "version 3 up to 0x400000, version 4 up to 0x2000000"; version 2 has none
 unfoldable pub bankLimit : (version : ℕ) → ℕ
 bankLimit version = cond (eqb version 4) 0x2000000 (cond (eqb version 3) 0x400000 0)
 

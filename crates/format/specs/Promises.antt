@@ -33,7 +33,7 @@ OneReading =
 
 -- THE COMPARISON
 
--- the rule: "repeat and frame count agree; opening writes to cores, as one sequence over both, agree"; so do the images, and "each
+-- the rule: "repeat and frame count agree", and so do the "opening writes to cores, as one sequence over both", the images, and "each
 -- frame's whole write list"
 pub record Agree (s s′ : Stream) : Type 0 where
   pub repeat : s .repeat ≡ s′ .repeat
@@ -86,7 +86,7 @@ EachVsync =
     (file : List ℕ) (s : Stream) → read file ≡ ok s → (calls : List Call) → AllAdmissible file (started file) calls
     → vsyncRecords (answers (started file) calls) ≡ vsyncsFrom s 0 (completed (answers (started file) calls))
 
--- "with n ≥ 1 records, W writes take W/n calls rounded up, at least one": so many calls complete one vsync, and fewer none
+-- with a run of some records the writes of a vsync take "W/n calls rounded up, at least one": so many complete it, and fewer do not
 abbrev pub CallsOfVsync : Type 0
 CallsOfVsync =
     (file : List ℕ) (s : Stream) → read file ≡ ok s → (calls : List Call) → AllAdmissible file (started file) calls
@@ -105,7 +105,7 @@ WaveSourceIs =
 -- DEMAND 3 (agreement/proofs/Agreement): files that the comparison passes sound the same
 
 -- what holds of the answers that two players told their listeners, which `Reports` says are the records reported: "both listeners hold the
--- same, and each vsync's records, over its calls, are its writes"
+-- same", and "each vsync's records, over its calls, are its writes"
 pub record Together (master other : List ℕ) (told told′ : List (Checked Played)) : Type 0 where
   pub s : Stream
   pub s′ : Stream

@@ -47,7 +47,7 @@ runs (suc count) target from [] = false
 runs (suc count) target from (record′ ∷ records) =
     elim (eqb (targetNumber record′) target && eqb (address record′) from) [ true ↦ runs count target (suc from) records | false ↦ false ]
 
--- "256 records to one core at consecutive addresses from a multiple of 256 below 0x800"
+-- 256 records "to one core at consecutive addresses", the first "a multiple of 256 below 0x800"
 unfoldable pub startsWave : List Operation → Bool
 startsWave [] = false
 startsWave (record′ ∷ records) =

@@ -24,7 +24,7 @@ use Rattle.format.specs.Writes.{usesSi22}
 abbrev pub noCard : CardRequirement
 noCard = record { slot = 0; «id_length» = 0; «id_offset» = 0; «bulk_start» = 0; «bulk_length» = 0; id = replicate 16 0 }
 
--- "eight cards by value with a count; cards beyond the count are all 0"
+-- "eight cards by value with a count", and those beyond it are all 0
 unfoldable pub tableOf : List CardRequirement → CardTable
 tableOf cards = record { cards = cards ++ replicate (8 - length cards) noCard; count = length cards }
 
@@ -147,7 +147,7 @@ unplayed finished cursor = progressAt (betweenAt cursor 0) false finished (repli
 unfoldable pub playerOf : List ℕ → Stream → Progress → StreamPlayer
 playerOf file s progress = record { header = headerOf file; cards = tableOf (s .cards); «uses_si22» = usesSi22 s; progress = progress }
 
--- "a refused player start gives back a finished state with recorded size 0"
+-- a refused start gives back "a finished state with recorded size 0"
 unfoldable pub refusedPlayer : StreamPlayer
 refusedPlayer =
     record {

@@ -63,13 +63,13 @@ anyFrameSi22 (frame ∷ frames) = anySi22 frame || anyFrameSi22 frames
 abbrev pub usesSi22 : Stream → Bool
 usesSi22 s = anySi22 (s .opening) || anyFrameSi22 (s .frames)
 
--- "zero to 0x800 + 32 × channel + 3 and to + 0x19", for so many channels of a core from one on
+-- zero to 0x800 + "32 × channel + 3 and to + 0x19", for so many channels of a core from one on
 unfoldable pub silence : (core count channel : ℕ) → List WriteRecord
 silence core zero channel = []
 silence core (suc count) channel =
     write core (0x800 + 32 * channel + 3) 0 ∷ write core (0x800 + 32 * channel + 0x19) 0 ∷ silence core count (channel + 1)
 
--- the closing writes: "(11, 0x0C, 0) first if any operation of the file has target 11", then the zeros "for core 0, 1 and channel 0 to 7"
+-- the closing writes: "(11, 0x0C, 0) first" where some operation has target 11, then the zeros "for core 0, 1 and channel 0 to 7"
 unfoldable pub closingWrites : (synth : Bool) → List WriteRecord
 closingWrites synth = cond synth (write 11 0x0C 0 ∷ []) [] ++ silence 0 8 0 ++ silence 1 8 0
 

@@ -1,4 +1,4 @@
--- "Each target owns its named limits."
+-- "Each target owns its named limits": what a target takes, for WRITE, for FILL and for COPY.
 use Prim.Native.Nat.{ℕ, _+_, _-_}
 use mathlib.Core.Bool.{Bool, true, false, _||_}
 use lib.Dec.{eqb, ltb}
@@ -27,8 +27,8 @@ writeLimit (Slot start size) = 0x1FFFFFF
 writeLimit Si22 = 0x3F
 writeLimit Missing = 0
 
--- the range of FILL and COPY: its first address, and how many there are. It ends at "0x7FF for cores, 0xFFFFF for PCM, 0x3FFFFF for version 3's
--- target 3"; a slot has "the card's bulk range in version 4"; and it is "never target 11"
+-- the range of FILL and COPY: its first address, and how many there are. It ends at "0x7FF for cores", "0xFFFFF for PCM", "0x3FFFFF for
+-- version 3's target 3"; a slot has "the card's bulk range in version 4"; and it is "never target 11"
 abbrev pub bulkStart : Target → ℕ
 bulkStart Core = 0
 bulkStart Pcm = 0
@@ -50,8 +50,8 @@ unfoldable pub outside : Target → (address size : ℕ) → Bool
 outside target address size =
     eqb size 0 || ltb address (bulkStart target) || ltb (bulkStart target + bulkLength target) (address + size)
 
--- the kind of pool that a COPY to the target takes: "kind 1 only to cores", "kind 2 only to PCM", "kind 3 only to target 3 (version 3) or 3 to
--- 10 (version 4)"
+-- the kind of pool that a COPY to the target takes: "kind 1 only to cores", "kind 2 only to PCM", and kind 3 to "target 3
+-- (version 3) or 3 to 10 (version 4)"
 abbrev pub kindFor : Target → ℕ
 kindFor Core = 1
 kindFor Pcm = 2

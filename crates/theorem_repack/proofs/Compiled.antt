@@ -12,6 +12,7 @@ use Rattle.format.specs.Checked.{Checked, ok, refused, mapped}
 use Rattle.format.specs.Compare.{compared, agreed}
 use Rattle.format.specs.Lent.{lentAfter}
 use Rattle.format.specs.Repack.{repack, repackInto}
+use Rattle.format.specs.Size.{pcmSize}
 use Rattle.format.proofs.Checks.{ok-is, refused-not-ok, through, passed-test}
 use Rattle.round_trip.proofs.Repacked.{repack-passes}
 use Rattle.compile.specs.declared.song.Repacked.the-variants.{Written}
@@ -40,7 +41,7 @@ compiled file buffer buffer′ size answer = go (repackInto file (length buffer)
     go (refused number place) e = absurd (refused-not-ok (sym (answer .0 ∙ ap (mapped length) e)))
 
 -- with images long enough the comparison passes it
-pub compiled-passes : (file buffer buffer′ : List ℕ) (size image image′ : ℕ) → Repacks file buffer buffer′ (Written size) → AllBytes file → 1048576 ≤ image → 1048576 ≤ image′
+pub compiled-passes : (file buffer buffer′ : List ℕ) (size image image′ : ℕ) → Repacks file buffer buffer′ (Written size) → AllBytes file → pcmSize ≤ image → pcmSize ≤ image′
     → compared file (take size buffer′) image image′ ≡ agreed true
 compiled-passes file buffer buffer′ size image image′ answer bytes room room′ =
     repack-passes file (take size buffer′) image image′ bytes (compiled file buffer buffer′ size answer .made) .1 room room′
