@@ -206,3 +206,5 @@ pub mod repack;
 mod header;
 #[cfg(test)]
 mod library;
+#[cfg(test)]
+mod states;

@@ -5,7 +5,7 @@ use crate::{PoolEntry, WriteRecord};
 use std::fs;
 use std::path::Path;
 
-fn example(name: &str) -> Vec<u8> {
+pub fn example(name: &str) -> Vec<u8> {
     let examples = Path::new(env!("CARGO_MANIFEST_DIR")).join("../../examples");
     fs::read(examples.join(name)).unwrap()
 }
