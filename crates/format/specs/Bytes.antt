@@ -1,5 +1,4 @@
--- Numbers of a file, "unsigned, highest byte first". A width counts bytes, so that 3- and 4-byte addresses are one
--- definition.
+-- Numbers of a file, "unsigned, highest byte first". A width counts bytes, so that 3- and 4-byte addresses are one definition.
 use Prim.Native.Nat.{ℕ, zero, suc, _+_, _*_, _/_, _%_, _<_}
 use mathlib.Core.Bool.{Bool, true, false, _&&_}
 use mathlib.Core.List.{List, [], _∷_, _++_}

@@ -19,7 +19,7 @@ abbrev pub cardAt : List ℕ → (at : ℕ) → CardRequirement
 cardAt file at =
     record { slot = byte file at; «id_length» = byte file (at + 1); «id_offset» = be 4 file (at + 4); «bulk_start» = be 4 file (at + 8); «bulk_length» = be 4 file (at + 12); id = part file (at + 16) 16 }
 
--- what breaks the rules that speak of one card. Its name and its bulk range end "at most 0x2000000"
+-- what breaks the rules that speak of one card. The ends of its name and of its bulk range "are at most 0x2000000"
 unfoldable pub oneCardWrong : CardRequirement → Bool
 oneCardWrong card =
     ltb 7 (card .slot)
