@@ -22,7 +22,7 @@ finishes = refl
 rooms : List ℕ
 rooms = 1 ∷ 3 ∷ 100 ∷ 200 ∷ 0 ∷ 1 ∷ 5 ∷ 33 ∷ 1 ∷ []
 
--- the records of each vsync are its writes. Edits claims_complete, only_pretends, skips_a_write
+-- the records of each vsync are its writes. Edits claims_complete, only_pretends, pool_id_from_1, skips_a_write
 played-four : vsyncRecords (answers (started (written four)) (calls (written four) rooms)) ≡ vsyncsFrom four 0 5
 unfolding calls four rooms reading writing listing playing
 played-four = refl

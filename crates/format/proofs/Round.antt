@@ -1,34 +1,14 @@
--- A stream written and read, and a master repacked, computed. Each stands here for the must-fail edits that it refuses; what holds of every
--- stream is proved in the crate round_trip.
+-- A master repacked, computed. It stands here for the must-fail edits that it refuses; what holds of every stream is proved in the crate
+-- round_trip.
 use Prim.Native.Nat.{ℕ, zero, suc, _+_}
 use mathlib.Core.Bool.{false}
 use mathlib.Core.Path.{_≡_, refl}
 use mathlib.Core.List.{List, [], _∷_, map}
 use lib.ListN.{replicate}
 use Rattle.format.specs.declared.operation.Operation.the-variants.{Write, Fill, Copy}
-use Rattle.format.specs.Checked.{ok}
 use Rattle.format.specs.Repack.{repacked}
-use Rattle.format.specs.Stream.{Stream, read}
-use Rattle.format.specs.Written.{written}
-use Rattle.format.proofs.Samples.{wave, pcm}
-use Rattle.format.proofs.Computed.{reading, writing, repacking}
-
--- a version 2 file with pools
-two : Stream
-two = record {
-  version = 2;
-  repeat = false;
-  period = 0;
-  cards = [];
-  pools = wave ∷ pcm ∷ [];
-  opening = Write 0 0x8FF 3 ∷ Fill 2 0xFFFFE 2 7 ∷ [];
-  frames = (Copy 1 0x700 0 0 256 ∷ Copy 2 5 1 1 2 ∷ []) ∷ [] ∷ [];
-}
-
--- what is written is read. Edit pool_id_from_1
-trip : read (written two) ≡ ok two
-unfolding two reading writing
-trip = refl
+use Rattle.format.specs.Stream.{Stream}
+use Rattle.format.proofs.Computed.{repacking}
 
 -- a master with a wave twice: one pool, two COPYs
 master : Stream

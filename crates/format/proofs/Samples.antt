@@ -1,4 +1,4 @@
--- What the computed examples share: a card, a pool of each kind, a version 4 file with every kind of operation, and calls of its player.
+-- What the computed examples of playing share: a version 4 file with every kind of operation, and calls of its player.
 use Prim.Native.Nat.{ℕ}
 use mathlib.Core.Bool.{false, cond}
 use mathlib.Core.List.{List, [], _∷_, map}
@@ -11,16 +11,13 @@ use Rattle.format.specs.Player.{Played}
 use Rattle.format.specs.Pool.{Payload}
 use Rattle.format.specs.Stream.{Stream}
 
-abbrev pub card : CardRequirement
+abbrev card : CardRequirement
 card = record { slot = 2; «id_length» = 3; «id_offset» = 0x1FFFFFD; «bulk_start» = 16; «bulk_length» = 300; id = 65 ∷ 66 ∷ 67 ∷ replicate 13 0 }
 
-abbrev pub wave : Payload
+abbrev wave : Payload
 wave = record { kind = 1; bytes = replicate 256 9 }
 
-abbrev pub pcm : Payload
-pcm = record { kind = 2; bytes = 1 ∷ 2 ∷ 3 ∷ [] }
-
-abbrev pub bank : Payload
+abbrev bank : Payload
 bank = record { kind = 3; bytes = 1 ∷ 2 ∷ 3 ∷ [] }
 
 unfoldable pub four : Stream
