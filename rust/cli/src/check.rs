@@ -2,7 +2,7 @@
 
 use crate::input;
 use crate::status::{Failure, Status};
-use sgub::Verdict;
+use sgub::{Header, Refusal};
 use std::ffi::OsString;
 use std::io::Write;
 
@@ -34,20 +34,20 @@ pub fn run(arguments: &[OsString], out: &mut impl Write) -> Result<Status, Failu
 }
 
 /// The line of the check program.
-pub fn line(verdict: &Verdict) -> String {
+pub fn line(verdict: &Result<Header, Refusal>) -> String {
     match verdict {
-        Verdict::Accepted(header) => format!(
+        Ok(header) => format!(
             "accepted {} {} {}",
             header.version, header.frame_count, header.initial_count
         ),
-        Verdict::Refused(refusal) => format!("refused {} {}", refusal.number, refusal.place),
+        Err(refusal) => refusal.to_string(),
     }
 }
 
 /// The status that one file gives.
-pub fn status(verdict: &Verdict) -> Status {
+pub fn status(verdict: &Result<Header, Refusal>) -> Status {
     match verdict {
-        Verdict::Accepted(_) => Status::Accepted,
-        Verdict::Refused(_) => Status::Refused,
+        Ok(_) => Status::Accepted,
+        Err(_) => Status::Refused,
     }
 }

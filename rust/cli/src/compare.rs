@@ -2,7 +2,7 @@
 
 use crate::input;
 use crate::status::{Failure, Status};
-use sgub::{Comparison, IMAGE_SIZE, Side};
+use sgub::{Comparison, IMAGE_SIZE};
 use sgub_cli::first_difference;
 use std::ffi::OsString;
 use std::io::Write;
@@ -20,23 +20,17 @@ pub fn run(arguments: &[OsString], out: &mut impl Write) -> Result<Status, Failu
     let mut images = [(); 2].map(|()| vec![0; IMAGE_SIZE]);
     let [master_image, other_image] = &mut images;
     match sgub::compare(&master, &other, master_image, other_image) {
-        Comparison::Passed => {
+        Ok(Comparison::Passed) => {
             writeln!(out, "passed")?;
             return Ok(Status::Accepted);
         }
-        Comparison::Failed => {
+        Ok(Comparison::Failed) => {
             writeln!(out, "failed")?;
             if let Some(difference) = first_difference(&master, &other, master_image, other_image) {
                 writeln!(out, "{difference}")?;
             }
         }
-        Comparison::Refused(side, refusal) => {
-            let file = match side {
-                Side::Master => "master",
-                Side::Other => "other",
-            };
-            writeln!(out, "refused {file} {} {}", refusal.number, refusal.place)?;
-        }
+        Err(refused) => writeln!(out, "{refused}")?,
     }
     Ok(Status::Refused)
 }

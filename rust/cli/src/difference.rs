@@ -1,6 +1,6 @@
 //! Where two files differ that the comparison told apart.
 
-use sgub::{Header, IMAGE_SIZE, PoolEntry, Verdict, WriteRecord, check, pools};
+use sgub::{Header, IMAGE_SIZE, PoolEntry, WriteRecord, check, pools};
 use std::fmt;
 
 /// The first difference between a master and a file of version 2, in the order in which the format sheet's rule names what
@@ -71,7 +71,7 @@ struct Accepted<'a> {
 impl<'a> Accepted<'a> {
     fn new(bytes: &'a [u8], version: u8) -> Option<Self> {
         match check(bytes) {
-            Verdict::Accepted(header) if header.version == version => Some(Self {
+            Ok(header) if header.version == version => Some(Self {
                 bytes,
                 header,
                 pools: pools(bytes).ok()?,

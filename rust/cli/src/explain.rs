@@ -10,7 +10,6 @@ mod text;
 use crate::check::{line, status};
 use crate::input;
 use crate::status::{Failure, Status};
-use sgub::Verdict;
 use std::ffi::OsString;
 use std::io::Write;
 
@@ -23,8 +22,8 @@ pub fn run(arguments: &[OsString], out: &mut impl Write) -> Result<Status, Failu
     let file = input::read(name)?;
     let verdict = sgub::check(&file);
     let explanation = match &verdict {
-        Verdict::Accepted(header) => accepted::explain(&file, header, !options.is_empty()),
-        Verdict::Refused(refusal) => refused::explain(&file, *refusal),
+        Ok(header) => accepted::explain(&file, header, !options.is_empty()),
+        Err(refusal) => refused::explain(&file, *refusal),
     };
     writeln!(out, "{}\n", line(&verdict))?;
     out.write_all(explanation.as_bytes())?;

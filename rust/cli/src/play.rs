@@ -3,10 +3,9 @@
 mod summary;
 mod text;
 
-use crate::check::line;
 use crate::input;
 use crate::status::{Failure, Status};
-use sgub::{StreamPlayer, Verdict, WriteRecord};
+use sgub::{StreamPlayer, WriteRecord};
 use std::ffi::OsString;
 use std::io::{BufWriter, Write};
 use summary::Summary;
@@ -33,7 +32,7 @@ pub fn run(arguments: &[OsString], out: &mut impl Write) -> Result<Status, Failu
             Status::Accepted
         }
         Err(refusal) => {
-            writeln!(out, "{}", line(&Verdict::Refused(refusal)))?;
+            writeln!(out, "{refusal}")?;
             Status::Refused
         }
     };

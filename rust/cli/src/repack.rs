@@ -22,7 +22,7 @@ pub fn run(arguments: &[OsString], out: &mut impl Write) -> Result<Status, Failu
             Ok(Status::Accepted)
         }
         Err(refusal) => {
-            writeln!(out, "refused {} {}", refusal.number, refusal.place)?;
+            writeln!(out, "{refusal}")?;
             Ok(Status::Refused)
         }
     }

@@ -3,7 +3,10 @@
 use crate::fields::number;
 use crate::messages;
 use crate::oracle::{self, Accepted, Judged};
-use sgub::{Header, Refusal, StreamPlayer, Verdict};
+use sgub::{Header, Refusal, StreamPlayer};
+
+/// What the library says of a file.
+pub type Verdict = Result<Header, Refusal>;
 
 /// The verdict of the library, or what the original says otherwise.
 ///
@@ -12,8 +15,8 @@ use sgub::{Header, Refusal, StreamPlayer, Verdict};
 pub fn verdict(file: &[u8]) -> Result<Verdict, String> {
     let verdict = sgub::check(file);
     match (&verdict, oracle::judge(file)) {
-        (Verdict::Accepted(header), Ok(judged)) => accepted(file, header, &judged)?,
-        (Verdict::Refused(refusal), Err(message)) => refused(file, *refusal, &message)?,
+        (Ok(header), Ok(judged)) => accepted(file, header, &judged)?,
+        (Err(refusal), Err(message)) => refused(file, *refusal, &message)?,
         (_, Ok(_)) => return Err(format!("library {verdict:?}, original accepts")),
         (_, Err(message)) => return Err(format!("library {verdict:?}, original {message:?}")),
     }
@@ -25,7 +28,7 @@ pub fn verdict(file: &[u8]) -> Result<Verdict, String> {
 fn started(file: &[u8], verdict: &Verdict) -> Result<(), String> {
     let started = StreamPlayer::start(file);
     let same = match (&started, verdict) {
-        (Ok(player), Verdict::Accepted(header)) => {
+        (Ok(player), Ok(header)) => {
             (player.version(), player.frame_count(), player.repeats())
                 == (header.version, header.frame_count, header.repeats)
                 && (player.frame_period(), player.uses_si22())
@@ -36,7 +39,7 @@ fn started(file: &[u8], verdict: &Verdict) -> Result<(), String> {
                     .all(|(index, card)| sgub::card(file, index) == Ok(Some(card)))
                 && (player.frame_index(), player.is_finished()) == (0, false)
         }
-        (Err(refusal), Verdict::Refused(same)) => refusal == same,
+        (Err(refusal), Err(same)) => refusal == same,
         _ => false,
     };
     if !same {
@@ -173,8 +176,8 @@ impl Counts {
     /// If a number is not 1 to 20 or a version not 1 to 4: [`verdict`] lets no such verdict pass.
     pub fn count(&mut self, verdict: &Verdict) {
         match verdict {
-            Verdict::Accepted(header) => self.accepted[usize::from(header.version) - 1] += 1,
-            Verdict::Refused(refusal) => self.refused[refusal.number as usize - 1] += 1,
+            Ok(header) => self.accepted[usize::from(header.version) - 1] += 1,
+            Err(refusal) => self.refused[refusal.number as usize - 1] += 1,
         }
     }
 
@@ -222,7 +225,7 @@ mod tests {
         for name in ["tune-1", "tune-2", "bank-3", "cards-4"] {
             let file = example(name);
             let judged = oracle::judge(&file).unwrap();
-            let Ok(Verdict::Accepted(header)) = verdict(&file) else {
+            let Ok(Ok(header)) = verdict(&file) else {
                 panic!("{name}");
             };
             for (index, change) in changes.iter().enumerate() {
@@ -241,7 +244,7 @@ mod tests {
     fn cards_and_payloads_are_compared() {
         let file = example("cards-4");
         let judged = oracle::judge(&file).unwrap();
-        let Verdict::Accepted(header) = sgub::check(&file) else {
+        let Ok(header) = sgub::check(&file) else {
             panic!();
         };
         for at in [48, 55, 59, 63, 64, 128, 159, 160, 415, 416, 435] {
@@ -255,10 +258,10 @@ mod tests {
     #[test]
     fn a_start_is_compared_with_the_check() {
         let file = example("cards-4");
-        let Verdict::Accepted(header) = sgub::check(&file) else {
+        let Ok(header) = sgub::check(&file) else {
             panic!();
         };
-        started(&file, &Verdict::Accepted(header)).unwrap();
+        started(&file, &Ok(header)).unwrap();
         let changes: [fn(&mut Header); 6] = [
             |header| header.version ^= 1,
             |header| header.repeats ^= true,
@@ -270,17 +273,14 @@ mod tests {
         for (index, change) in changes.iter().enumerate() {
             let mut changed = header;
             change(&mut changed);
-            assert!(
-                started(&file, &Verdict::Accepted(changed)).is_err(),
-                "{index}"
-            );
+            assert!(started(&file, &Ok(changed)).is_err(), "{index}");
         }
-        let refused = |number, place| Verdict::Refused(Refusal { number, place });
+        let refused = |number, place| Err(Refusal { number, place });
         assert!(started(&file, &refused(7, 80)).is_err());
         let file = example("refused-7");
         started(&file, &refused(7, 80)).unwrap();
         assert!(started(&file, &refused(7, 48)).is_err());
-        assert!(started(&file, &Verdict::Accepted(header)).is_err());
+        assert!(started(&file, &Ok(header)).is_err());
     }
 
     #[test]

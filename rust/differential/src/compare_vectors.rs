@@ -5,7 +5,7 @@ use crate::examples;
 use crate::model::{Operation, PCM, Pool, Stream};
 use crate::pairs::Pairs;
 use crate::sheet;
-use sgub::{IMAGE_SIZE, Side};
+use sgub::{IMAGE_SIZE, RefusedFile, Side};
 
 /// The longest file of a drawn pair.
 const LONGEST: usize = 2048;
@@ -78,7 +78,7 @@ impl Maker {
         let short = rooms.iter().position(|room| *room < IMAGE_SIZE);
         let (file, refusal, passed) = match (outcome, short) {
             (Outcome::TooLong, _) => return Ok(()),
-            (Outcome::Refused(side, refusal), _) => {
+            (Outcome::Refused(RefusedFile { side, refusal }), _) => {
                 let file = if side == Side::Master { 1 } else { 2 };
                 (file, [refusal.number, refusal.place as u32], false)
             }

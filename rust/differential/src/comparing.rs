@@ -5,7 +5,7 @@ use crate::memory::Memory;
 use crate::oracle::{self, Player, Vsync};
 use crate::rng::Rng;
 use crate::{listening, weight};
-use sgub::{Comparison, Header, IMAGE_SIZE, Refusal, Side, Verdict, WriteRecord};
+use sgub::{Comparison, Header, IMAGE_SIZE, Refusal, RefusedFile, Side, WriteRecord};
 use sgub_cli::Difference;
 
 /// What each byte of lent memory is before the call.
@@ -28,7 +28,7 @@ pub enum Outcome {
     /// It failed, with the first difference, and whether one can be heard.
     Failed(Difference, bool),
     /// A file is refused.
-    Refused(Side, Refusal),
+    Refused(RefusedFile),
     /// A file has more than [`MOST_WRITES`] writes.
     TooLong,
 }
@@ -69,24 +69,23 @@ impl Comparing {
     pub fn compare(&mut self, files: [&[u8]; 2], behind: [usize; 2]) -> Result<Outcome, String> {
         let headers = match headers(files) {
             Ok(headers) => headers,
-            Err((side, refusal)) => {
+            Err(refused) => {
                 for rooms in [[0, 0], behind] {
-                    self.refused(files, rooms, side, refusal)?;
+                    self.refused(files, rooms, refused)?;
                 }
-                return Ok(Outcome::Refused(side, refusal));
+                return Ok(Outcome::Refused(refused));
             }
         };
         if files.iter().any(|file| weight::writes(file) > MOST_WRITES) {
             return Ok(Outcome::TooLong);
         }
-        let short = Refusal {
-            number: 24,
-            place: 0,
-        };
+        let (number, place) = (24, 0);
+        let refusal = Refusal { number, place };
+        let short = |side| RefusedFile { side, refusal };
         if self.rng.one_in(SHORT) {
-            self.refused(files, [IMAGE_SIZE - 1, 0], Side::Master, short)?;
+            self.refused(files, [IMAGE_SIZE - 1, 0], short(Side::Master))?;
             let room = IMAGE_SIZE + behind[0];
-            self.refused(files, [room, IMAGE_SIZE - 1], Side::Other, short)?;
+            self.refused(files, [room, IMAGE_SIZE - 1], short(Side::Other))?;
         }
         let difference = self.difference(files, &headers)?;
         self.answered(files, behind, difference)?;
@@ -156,7 +155,7 @@ impl Comparing {
         self.lend(behind.map(|behind| IMAGE_SIZE + behind));
         let [master_lent, other_lent] = &mut self.lent;
         let answer = sgub::compare(files[0], files[1], master_lent, other_lent);
-        if answer != expected {
+        if answer != Ok(expected) {
             return Err(format!("library {answer:?}, by the rule {difference:?}"));
         }
         for (lent, image) in self.lent.iter().zip(self.images()) {
@@ -181,13 +180,12 @@ impl Comparing {
         &mut self,
         files: [&[u8]; 2],
         rooms: [usize; 2],
-        side: Side,
-        refusal: Refusal,
+        refused: RefusedFile,
     ) -> Result<(), String> {
         self.lend(rooms);
         let [master_lent, other_lent] = &mut self.lent;
         let answer = sgub::compare(files[0], files[1], master_lent, other_lent);
-        let expected = Comparison::Refused(side, refusal);
+        let expected = Err(refused);
         if answer != expected {
             return Err(format!("library {answer:?}, expected {expected:?}"));
         }
@@ -208,15 +206,16 @@ impl Comparing {
 
 /// The headers of two files that no refusal from 1 to 21 applies to; the first refusal otherwise. Which number and place a file
 /// is refused with is the library's check to say, which `verdicts` holds against the original.
-fn headers(files: [&[u8]; 2]) -> Result<[Header; 2], (Side, Refusal)> {
+fn headers(files: [&[u8]; 2]) -> Result<[Header; 2], RefusedFile> {
     let [master, other] = files;
     let header = |file, version, side| match sgub::check(file) {
-        Verdict::Refused(refusal) => Err((side, refusal)),
-        Verdict::Accepted(header) if header.version != version => {
+        Err(refusal) => Err(RefusedFile { side, refusal }),
+        Ok(header) if header.version != version => {
             let (number, place) = (21, 0);
-            Err((side, Refusal { number, place }))
+            let refusal = Refusal { number, place };
+            Err(RefusedFile { side, refusal })
         }
-        Verdict::Accepted(header) => Ok(header),
+        Ok(header) => Ok(header),
     };
     Ok([
         header(master, 1, Side::Master)?,

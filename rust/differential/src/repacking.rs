@@ -1,7 +1,7 @@
 //! The library's repacking against the original's, byte for byte.
 
 use crate::oracle;
-use sgub::{Header, Refusal, Verdict};
+use sgub::{Header, Refusal};
 
 /// What repacking a file came to, on both sides.
 #[derive(Clone, Copy, Debug, PartialEq, Eq)]
@@ -21,12 +21,12 @@ const BEFORE: u8 = 0xA5;
 /// another file the library has to refuse as its own check does, and an accepted one of another version with 21.
 pub fn repack(file: &[u8], buffer: &mut Vec<u8>) -> Result<Outcome, String> {
     let number = match sgub::check(file) {
-        Verdict::Refused(refusal) => return refused(file, refusal, buffer),
-        Verdict::Accepted(Header { version: 1, .. }) => match oracle::repack(file) {
+        Err(refusal) => return refused(file, refusal, buffer),
+        Ok(Header { version: 1, .. }) => match oracle::repack(file) {
             Ok(result) => return written(file, &result, buffer),
             Err(message) => number(&message)?,
         },
-        Verdict::Accepted(_) => 21,
+        Ok(_) => 21,
     };
     refused(file, Refusal { number, place: 0 }, buffer)
 }

@@ -6,7 +6,6 @@
 use crate::compare;
 use crate::generate::{Choice, Family, Generator};
 use crate::sheet::{self, Answer};
-use sgub::Verdict;
 use std::collections::{BTreeMap, HashSet, VecDeque};
 
 /// The longest file that is stored.
@@ -90,11 +89,11 @@ fn draw(
 fn answer(file: &[u8]) -> Result<Answer, String> {
     let verdict = compare::verdict(file).map_err(|text| format!("{text}: {file:02x?}"))?;
     Ok(match verdict {
-        Verdict::Accepted(header) => {
+        Ok(header) => {
             let version = u32::from(header.version);
             [0, 0, version, header.frame_count, header.initial_count]
         }
-        Verdict::Refused(refusal) => [refusal.number, refusal.place as u32, 0, 0, 0],
+        Err(refusal) => [refusal.number, refusal.place as u32, 0, 0, 0],
     })
 }
 

@@ -13,21 +13,12 @@ mod ffi;
 mod player;
 mod repack;
 
-pub use comparison::{Comparison, IMAGE_SIZE, Side, compare};
+pub use comparison::{Comparison, IMAGE_SIZE, RefusedFile, Side, compare};
 pub use player::{StreamPlayer, Vsync, WriteRecord};
 pub use repack::{LONGEST_RESULT, repack, repack_to_vec};
 
 use std::error::Error;
 use std::fmt;
-
-/// The verdict on a file.
-#[derive(Clone, Copy, Debug, PartialEq, Eq)]
-pub enum Verdict {
-    /// No refusal applies.
-    Accepted(Header),
-    /// The first refusal that applies.
-    Refused(Refusal),
-}
 
 /// Why a file or a call is refused, as the format sheet's list has it. It is displayed as the command prints it,
 /// `refused NUMBER PLACE`.
@@ -95,6 +86,7 @@ pub struct Card {
 
 impl Card {
     /// The name.
+    #[must_use]
     pub fn name(&self) -> &[u8] {
         &self.id[..usize::from(self.id_length)]
     }
@@ -134,13 +126,16 @@ pub struct PoolEntry {
     pub offset: u32,
 }
 
-/// The verdict on a file.
-pub fn check(file: &[u8]) -> Verdict {
+/// The verdict on a file: what the header of an accepted one says.
+///
+/// # Errors
+/// The first refusal that applies, 1 to 20.
+pub fn check(file: &[u8]) -> Result<Header, Refusal> {
     let verdict = ffi::check(file);
     if let Some(refusal) = refusal(verdict.number, verdict.place) {
-        return Verdict::Refused(refusal);
+        return Err(refusal);
     }
-    Verdict::Accepted(Header {
+    Ok(Header {
         version: verdict.version,
         repeats: verdict.repeats,
         uses_si22: verdict.uses_si22,

@@ -16,6 +16,7 @@ pub struct WriteRecord {
 
 /// What a call of [`StreamPlayer::advance_vsync`] did.
 #[derive(Clone, Copy, Debug, PartialEq, Eq)]
+#[must_use]
 pub struct Vsync {
     /// How many writes stand at the front of the run.
     pub count: usize,
@@ -88,47 +89,56 @@ impl StreamPlayer {
     }
 
     /// Format version, 1 to 4.
+    #[must_use]
     pub fn version(&self) -> u8 {
         self.0.header.version
     }
 
     /// Frames of one pass.
+    #[must_use]
     pub fn frame_count(&self) -> u32 {
         self.0.header.frame_count
     }
 
     /// Frames of this pass that have begun.
+    #[must_use]
     pub fn frame_index(&self) -> u32 {
         self.0.progress.frame_index
     }
 
     /// Whether frame 1 follows the last frame.
+    #[must_use]
     pub fn repeats(&self) -> bool {
         self.0.header.repeat
     }
 
     /// Whether every closing write was given.
+    #[must_use]
     pub fn is_finished(&self) -> bool {
         self.0.progress.finished
     }
 
     /// Frame period; 0 below version 4.
+    #[must_use]
     pub fn frame_period(&self) -> u32 {
         self.0.header.frame_period
     }
 
     /// Whether some operation of the file has target 11.
+    #[must_use]
     pub fn uses_si22(&self) -> bool {
         self.0.uses_si22
     }
 
     /// The cards that the file asks for, in the order of their slots.
+    #[must_use]
     pub fn card_requirements(&self) -> impl ExactSizeIterator<Item = Card> + '_ {
         let table = &self.0.cards;
         table.cards[..table.count].iter().map(|card| (*card).into())
     }
 
     /// The wave pool last copied to a channel of a core; none where none was, and none outside of 2 cores with 8 channels.
+    #[must_use]
     pub fn wave_source(&self, core: usize, channel: usize) -> Option<u16> {
         let source = ffi::wave_source(self.0, core, channel);
         source.copied.then_some(source.pool)

@@ -1,6 +1,6 @@
 //! The comparison by the wrapper: pass and fail, each refusal with its file, and what happens to the images.
 
-use sgub::{Comparison, IMAGE_SIZE, Refusal, Side, compare, repack_to_vec};
+use sgub::{Comparison, IMAGE_SIZE, Refusal, RefusedFile, Side, compare, repack_to_vec};
 use std::fs;
 use std::path::Path;
 
@@ -10,7 +10,9 @@ fn example(name: &str) -> Vec<u8> {
 }
 
 /// The comparison with two images of the least size, and the images.
-fn compared(master: &[u8], other: &[u8]) -> (Comparison, [Vec<u8>; 2]) {
+type Answer = Result<Comparison, RefusedFile>;
+
+fn compared(master: &[u8], other: &[u8]) -> (Answer, [Vec<u8>; 2]) {
     let mut images = [(); 2].map(|()| vec![0xA5; IMAGE_SIZE]);
     let [master_image, other_image] = &mut images;
     let answer = compare(master, other, master_image, other_image);
@@ -22,10 +24,10 @@ fn a_master_and_its_repacking_pass() {
     for name in ["empty-1.sgub", "tune-1.sgub"] {
         let master = example(name);
         let repacked = repack_to_vec(&master).unwrap();
-        assert_eq!(compared(&master, &repacked).0, Comparison::Passed);
+        assert_eq!(compared(&master, &repacked).0, Ok(Comparison::Passed));
     }
     let (answer, images) = compared(&example("tune-1.sgub"), &example("tune-2.sgub"));
-    assert_eq!(answer, Comparison::Passed);
+    assert_eq!(answer, Ok(Comparison::Passed));
     for image in images {
         let (front, rest) = image.split_at(8);
         assert_eq!(front, [0x80, 0x88, 0x90, 0x98, 0xA0, 0xA8, 0xB0, 0xB8]);
@@ -42,7 +44,7 @@ fn one_other_byte_fails() {
         let mut other = example("tune-2.sgub");
         assert_ne!(other[at], value);
         other[at] = value;
-        assert_eq!(compared(&master, &other).0, Comparison::Failed);
+        assert_eq!(compared(&master, &other).0, Ok(Comparison::Failed));
     }
 }
 
@@ -59,7 +61,8 @@ fn a_refusal_names_its_file_and_writes_nothing() {
         (&master, &example("bank-3.sgub"), Side::Other, 21, 0),
         (&Vec::new(), &other, Side::Master, 1, 0),
     ] {
-        let expected = Comparison::Refused(side, Refusal { number, place });
+        let refusal = Refusal { number, place };
+        let expected = Err(RefusedFile { side, refusal });
         let (answer, images) = compared(first, second);
         assert_eq!(answer, expected);
         assert!(images.iter().flatten().all(|byte| *byte == 0xA5));
@@ -72,14 +75,15 @@ fn a_refusal_names_its_file_and_writes_nothing() {
 fn a_short_image_is_24_and_bytes_behind_an_image_stay() {
     let (master, other) = (example("tune-1.sgub"), example("tune-2.sgub"));
     let (number, place) = (24, 0);
-    let short = |side| Comparison::Refused(side, Refusal { number, place });
+    let refusal = Refusal { number, place };
+    let short = |side| Err(RefusedFile { side, refusal });
     for (rooms, answer) in [
         ([IMAGE_SIZE - 1, IMAGE_SIZE], short(Side::Master)),
         ([0, 0], short(Side::Master)),
         ([IMAGE_SIZE, IMAGE_SIZE - 1], short(Side::Other)),
         ([IMAGE_SIZE + 3, 0], short(Side::Other)),
-        ([IMAGE_SIZE + 3, IMAGE_SIZE], Comparison::Passed),
-        ([IMAGE_SIZE, IMAGE_SIZE + 5], Comparison::Passed),
+        ([IMAGE_SIZE + 3, IMAGE_SIZE], Ok(Comparison::Passed)),
+        ([IMAGE_SIZE, IMAGE_SIZE + 5], Ok(Comparison::Passed)),
     ] {
         let [mut master_image, mut other_image] = rooms.map(|room| vec![0xA5; room]);
         assert_eq!(
@@ -88,8 +92,8 @@ fn a_short_image_is_24_and_bytes_behind_an_image_stay() {
         );
         for image in [master_image, other_image] {
             let written = match answer {
-                Comparison::Passed => IMAGE_SIZE,
-                _ => 0,
+                Ok(_) => IMAGE_SIZE,
+                Err(_) => 0,
             };
             assert!(image[..written].iter().all(|byte| *byte != 0xA5));
             assert!(image[written..].iter().all(|byte| *byte == 0xA5));

@@ -1,6 +1,6 @@
 //! The wrapper's answers on the examples of the repository and on bytes that are none.
 
-use sgub::{Card, Header, PoolEntry, Refusal, StreamPlayer, Verdict};
+use sgub::{Card, Header, PoolEntry, Refusal, StreamPlayer};
 use std::fs;
 use std::path::Path;
 
@@ -9,8 +9,8 @@ fn example(name: &str) -> Vec<u8> {
     fs::read(examples.join(name)).unwrap()
 }
 
-fn refused(number: u32, place: usize) -> Verdict {
-    Verdict::Refused(Refusal { number, place })
+fn refused(number: u32, place: usize) -> Result<Header, Refusal> {
+    Err(Refusal { number, place })
 }
 
 #[test]
@@ -30,7 +30,7 @@ fn verdicts_of_the_sheets_examples() {
         frame_start: 20,
         total_size: 22,
     };
-    assert_eq!(sgub::check(&p3), Verdict::Accepted(accepted));
+    assert_eq!(sgub::check(&p3), Ok(accepted));
     assert_eq!(sgub::check(&[]), refused(1, 0));
     assert_eq!(sgub::check(b"SGUB"), refused(1, 0));
     for (at, value, number) in [(11, 0, 8), (5, 15, 4), (4, 5, 3)] {
@@ -58,7 +58,7 @@ fn everything_about_a_file_of_version_4() {
         frame_start: 495,
         total_size: 527,
     };
-    assert_eq!(sgub::check(&file), Verdict::Accepted(header));
+    assert_eq!(sgub::check(&file), Ok(header));
     let card = Card {
         slot: 0,
         id_length: 9,
@@ -96,7 +96,7 @@ fn each_function_gives_the_verdict_on_a_refused_file() {
         (&whole[..whole.len() - 1], 8, 0),
     ] {
         let refusal = Refusal { number, place };
-        assert_eq!(sgub::check(file), Verdict::Refused(refusal));
+        assert_eq!(sgub::check(file), Err(refusal));
         assert_eq!(sgub::card(file, 0), Err(refusal));
         assert_eq!(sgub::card(file, usize::MAX), Err(refusal));
         assert_eq!(sgub::pool(file, 0), Err(refusal));

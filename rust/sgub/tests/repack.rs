@@ -1,6 +1,6 @@
 //! Repacking by the wrapper: the sheet's examples, each refusal of its own, and what happens to the buffer.
 
-use sgub::{LONGEST_RESULT, Refusal, Verdict, check, repack, repack_to_vec};
+use sgub::{LONGEST_RESULT, Refusal, check, repack, repack_to_vec};
 use std::fs;
 use std::path::Path;
 
@@ -28,7 +28,7 @@ fn the_sheets_examples() {
     let result = repack_to_vec(&p11(0)).unwrap();
     assert_eq!(result.len(), 84);
     assert_eq!(result[56], 0x55);
-    assert!(matches!(check(&result), Verdict::Accepted(_)));
+    assert!(matches!(check(&result), Ok(_)));
     assert_eq!(repack_to_vec(&p11(1)), refused(22));
 }
 
@@ -72,6 +72,6 @@ fn long() -> Vec<u8> {
     master.extend((records as u32).to_be_bytes());
     master.extend((size as u32).to_be_bytes());
     master.resize(size, 0);
-    assert!(matches!(check(&master), Verdict::Accepted(_)));
+    assert!(matches!(check(&master), Ok(_)));
     master
 }

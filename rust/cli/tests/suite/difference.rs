@@ -19,7 +19,7 @@ fn difference(master: &[u8], other: &[u8]) -> Option<Difference> {
         Some(_) => Comparison::Failed,
         None => Comparison::Passed,
     };
-    assert_eq!(answer, expected, "{difference:?}");
+    assert_eq!(answer, Ok(expected), "{difference:?}");
     difference
 }
 

@@ -9,7 +9,7 @@ use differential::packing::{Style, pack};
 use differential::pairs::{Change, Kind, Pairs};
 use differential::rng::Rng;
 use differential::shapes::Shape;
-use sgub::{Refusal, Side};
+use sgub::{Refusal, RefusedFile, Side};
 use sgub_cli::Difference;
 
 fn example(name: &str) -> Vec<u8> {
@@ -82,8 +82,8 @@ fn kinds_are_what_they_say() {
                 true
             }
             (Kind::Changed(change), Outcome::Failed(difference, _)) => is_meant(change, difference),
-            (Kind::AnyMaster, Outcome::Refused(side, _)) => side == Side::Master,
-            (Kind::AnyOther, Outcome::Refused(side, _)) => side == Side::Other,
+            (Kind::AnyMaster, Outcome::Refused(refused)) => refused.side == Side::Master,
+            (Kind::AnyOther, Outcome::Refused(refused)) => refused.side == Side::Other,
             (Kind::Damaged, outcome) => outcome != Outcome::Passed,
             _ => false,
         };
@@ -105,7 +105,7 @@ fn refusals_come_in_their_order() {
     ] {
         let outcome = comparing.compare(files.map(|file| file.as_slice()), [3, 4]);
         let refusal = Refusal { number, place };
-        assert_eq!(outcome, Ok(Outcome::Refused(side, refusal)));
+        assert_eq!(outcome, Ok(Outcome::Refused(RefusedFile { side, refusal })));
     }
 }
 

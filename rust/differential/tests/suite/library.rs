@@ -8,7 +8,6 @@ use differential::shapes::{Large, large};
 use differential::sheet;
 use differential::vectors::{self, LONGEST};
 use differential::weight;
-use sgub::Verdict;
 use std::collections::{BTreeMap, HashSet};
 
 #[test]
@@ -51,7 +50,7 @@ fn library_and_original_play_alike() {
 fn large_files_are_accepted_by_both() {
     for shape in Large::ALL {
         let verdict = compare::verdict(&large(shape, 300_000)).unwrap();
-        assert!(matches!(verdict, Verdict::Accepted(_)), "{shape:?}");
+        assert!(matches!(verdict, Ok(_)), "{shape:?}");
     }
 }
 

@@ -3,7 +3,6 @@
 use crate::Answer;
 use differential::oracle;
 use differential::shapes::{Large, large};
-use sgub::Verdict;
 use std::hint::black_box;
 use std::io::Write;
 use std::time::{Duration, Instant};
@@ -47,7 +46,7 @@ fn best(file: &[u8]) -> Result<[Duration; 2], String> {
         judged?;
         let (time, verdict) = timed(|| sgub::check(black_box(file)));
         best[1] = best[1].min(time);
-        if let Verdict::Refused(refusal) = verdict {
+        if let Err(refusal) = verdict {
             return Err(format!("the library refuses a benchmark file: {refusal:?}"));
         }
     }

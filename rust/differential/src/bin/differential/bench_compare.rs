@@ -59,7 +59,7 @@ fn row(
     let mut images = [(); 2].map(|()| vec![0; IMAGE_SIZE]);
     let [master_image, other_image] = &mut images;
     let mut best = Duration::MAX;
-    let mut verdict = Comparison::Failed;
+    let mut verdict = Ok(Comparison::Failed);
     for _ in 0..repeats {
         let (time, answer) = timed(|| {
             sgub::compare(
@@ -73,9 +73,9 @@ fn row(
         verdict = answer;
     }
     let word = match verdict {
-        Comparison::Passed => "passed",
-        Comparison::Failed => "failed",
-        Comparison::Refused(..) => return Err(format!("{name}: {verdict:?}").into()),
+        Ok(Comparison::Passed) => "passed",
+        Ok(Comparison::Failed) => "failed",
+        Err(refused) => return Err(format!("{name}: {refused}").into()),
     };
     let (sizes, time) = ([master.len(), other.len()], best.as_secs_f64() * 1e3);
     writeln!(

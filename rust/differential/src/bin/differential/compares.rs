@@ -5,7 +5,7 @@ use crate::work::{self, Work};
 use differential::compare_vectors;
 use differential::comparing::{BEHIND, Comparing, Outcome};
 use differential::pairs::{Kind, Pairs};
-use sgub::Side;
+use sgub::{RefusedFile, Side};
 use sgub_cli::Difference;
 use std::fs;
 use std::io::{self, Write};
@@ -89,7 +89,7 @@ impl Counts {
                 self.heard += u64::from(heard);
                 self.unheard += u64::from(!heard);
             }
-            Outcome::Refused(side, refusal) => {
+            Outcome::Refused(RefusedFile { side, refusal }) => {
                 let side = usize::from(side == Side::Other);
                 self.refused[side][usize::from(refusal.number == 21)] += 1;
             }
