@@ -65,6 +65,8 @@ fn a_refusal_names_its_file_and_writes_nothing() {
         let expected = Err(RefusedFile { side, refusal });
         let (answer, images) = compared(first, second);
         assert_eq!(answer, expected);
+        let words = answer.unwrap_err().to_string();
+        assert_eq!(words, format!("refused {side} {number} {place}"));
         assert!(images.iter().flatten().all(|byte| *byte == 0xA5));
         // It comes before 24.
         assert_eq!(compare(first, second, &mut [], &mut []), expected);

@@ -83,7 +83,7 @@ fn another_file_is_refused_and_changes_nothing() {
     let file = example("tune-1.sgub");
     let mut player = StreamPlayer::start(&file).unwrap();
     let mut records = run(64);
-    player.advance_vsync(&file, &mut records).unwrap();
+    assert!(player.advance_vsync(&file, &mut records).is_ok());
     let before = (player.clone(), records.clone());
     let refusal = Refusal {
         number: 25,
@@ -112,7 +112,8 @@ fn a_player_tells_of_its_file() {
     };
     assert!(none(&player));
     // The opening copies the wave, which is pool 0, to channel 1 of core 0; its first write counts.
-    player.advance_vsync(&file, &mut run(1)).unwrap();
+    let first = player.advance_vsync(&file, &mut run(1)).unwrap();
+    assert_eq!((first.count, first.complete), (1, false));
     assert_eq!(player.wave_source(0, 1), Some(0));
     assert_eq!(player.wave_source(0, 9), None);
     assert_eq!(player.wave_source(1, 1), None);

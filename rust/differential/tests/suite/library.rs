@@ -50,7 +50,7 @@ fn library_and_original_play_alike() {
 fn large_files_are_accepted_by_both() {
     for shape in Large::ALL {
         let verdict = compare::verdict(&large(shape, 300_000)).unwrap();
-        assert!(matches!(verdict, Ok(_)), "{shape:?}");
+        assert!(verdict.is_ok(), "{shape:?}");
     }
 }
 
