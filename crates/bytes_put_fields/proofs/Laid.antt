@@ -5,12 +5,12 @@ use mathlib.Core.List.{List, [], _∷_, _++_, append-assoc}
 use native.Mathlib.Nat.{add-zero, zero-add, add-assoc}
 use native.Mathlib.Omega.{arith}
 use lib.ListN.{length, length-append}
-use Rattle.format.specs.Bytes.{Field, u8, u, raw, fieldBytes, bytesOf, bytesOfAll}
-use Rattle.format.proofs.Bytes.{length-bytesOf}
-use Rattle.format.proofs.Fields.{fieldsSize, fields-size}
-use Rattle.big_endian.specs.Put.{put}
-use Rattle.big_endian.proofs.Laws.{length-put}
-use Rattle.big_endian.proofs.Sequence.{put-next, put-none}
+use Rattle.base_format.specs.Bytes.{Field, u8, u, raw, fieldBytes, bytesOf, bytesOfAll}
+use Rattle.base_format.proofs.Bytes.{length-bytesOf}
+use Rattle.base_format.proofs.Fields.{fieldsSize, fields-size}
+use Rattle.bytes_read.specs.Put.{put}
+use Rattle.bytes_read.proofs.Laws.{length-put}
+use Rattle.bytes_read.proofs.Sequence.{put-next, put-none}
 use Rattle.bytes_put_fields.specs.Fields.{putMore, putFields, Narrow}
 
 -- fields behind others

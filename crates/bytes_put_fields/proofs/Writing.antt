@@ -4,9 +4,9 @@ use mathlib.Core.Path.{_≡_, refl, sym, ap, _∙_}
 use mathlib.Core.List.{List, [], _++_}
 use native.Mathlib.Omega.{arith}
 use lib.ListN.{length, length-append}
-use Rattle.big_endian.specs.Put.{put}
-use Rattle.big_endian.proofs.Laws.{length-put}
-use Rattle.big_endian.proofs.Sequence.{put-next, put-none}
+use Rattle.bytes_read.specs.Put.{put}
+use Rattle.bytes_read.proofs.Laws.{length-put}
+use Rattle.bytes_read.proofs.Sequence.{put-next, put-none}
 
 -- `whole` goes to `at` of the memory `before`; `rest` of it is still to go to `place` of the memory `now`
 pub record Writing (whole : List ℕ) (at : ℕ) (before rest : List ℕ) (place : ℕ) (now : List ℕ) : Type 0 where

@@ -2,8 +2,8 @@
 use Prim.Native.Nat.{ℕ, _+_, _<_}
 use mathlib.Core.List.{List, [], _∷_}
 use lib.ListN.{length}
-use Rattle.format.specs.Bytes.{Field, u8, u, raw, bytesOf}
-use Rattle.big_endian.specs.Put.{put}
+use Rattle.base_format.specs.Bytes.{Field, u8, u, raw, bytesOf}
+use Rattle.bytes_read.specs.Put.{put}
 
 abbrev pub sizeOf : Field → ℕ
 sizeOf (u8 n) = 1

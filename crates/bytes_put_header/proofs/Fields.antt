@@ -7,12 +7,12 @@ use native.Mathlib.Omega.{arith}
 use borrow.Author.Tests.{eq-eqb, ne-eqb, eqb-true, eqb-false}
 use lib.Dec.{eqb}
 use lib.ListN.{length, length-append}
-use Rattle.format.specs.declared.header.Header.{Header}
-use Rattle.format.specs.Bytes.{Field, bytesOfAll}
-use Rattle.format.specs.Header.{headerSize}
-use Rattle.format.specs.Written.{headerFields}
-use Rattle.format.proofs.Fields.{fields-size}
-use Rattle.big_endian.specs.Put.{put}
+use Rattle.base_format.specs.declared.header.Header.{Header}
+use Rattle.base_format.specs.Bytes.{Field, bytesOfAll}
+use Rattle.base_format.specs.Header.{headerSize}
+use Rattle.base_format.specs.Written.{headerFields}
+use Rattle.base_format.proofs.Fields.{fields-size}
+use Rattle.bytes_read.specs.Put.{put}
 use Rattle.bytes_put_fields.proofs.Laid.{fields-append}
 use Rattle.bytes_put_fields.proofs.Writing.{Writing, starts, wrote}
 use Rattle.bytes_put_header.specs.Fields.{frontFields, countFields, sizeFields, periodFields}

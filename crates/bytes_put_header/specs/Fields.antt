@@ -2,8 +2,8 @@
 use Prim.Native.Nat.{ℕ}
 use mathlib.Core.Bool.{Bool, cond}
 use mathlib.Core.List.{List, [], _∷_}
-use Rattle.format.specs.Bytes.{Field, u8, u16, u32}
-use Rattle.format.specs.Header.{letters}
+use Rattle.base_format.specs.Bytes.{Field, u8, u16, u32}
+use Rattle.base_format.specs.Header.{letters}
 
 abbrev pub frontFields : (version : ℕ) → (repeat : Bool) → (frames : ℕ) → List Field
 frontFields version repeat frames = u32 letters ∷ u8 version ∷ u8 16 ∷ u8 (cond repeat 1 0) ∷ u8 0 ∷ u32 frames ∷ []

@@ -1,18 +1,18 @@
 // The header of a pooled file (versions 2 to 4): 40 bytes that are laid out alike, and in version 4 the period and 4 bytes more.
-use big_endian::put_u8;
-use big_endian::put_u16;
-use big_endian::put_u32;
-use format::CARDS_HEADER_SIZE;
-use format::Header;
-use format::POOLED_HEADER_SIZE;
+use base_format::CARDS_HEADER_SIZE;
+use base_format::Header;
+use base_format::POOLED_HEADER_SIZE;
+use bytes_read::put_u8;
+use bytes_read::put_u16;
+use bytes_read::put_u32;
 ghost use mathlib.Core.Path.{_≡_};
 ghost use mathlib.Core.Bool.{cond};
 ghost use Prim.Native.Nat.{_≤_, _<_};
 ghost use lib.ListN.{length};
-ghost use Rattle.format.specs.Bytes.{bytesOfAll};
-ghost use Rattle.format.specs.Header.{headerSize};
-ghost use Rattle.format.specs.Written.{headerFields};
-ghost use Rattle.big_endian.specs.Put.{put};
+ghost use Rattle.base_format.specs.Bytes.{bytesOfAll};
+ghost use Rattle.base_format.specs.Header.{headerSize};
+ghost use Rattle.base_format.specs.Written.{headerFields};
+ghost use Rattle.bytes_read.specs.Put.{put};
 ghost use Rattle.bytes_put_header.specs.Fields.{frontFields, countFields, sizeFields, periodFields};
 
 // The repeat flag as a byte.

@@ -7,15 +7,15 @@ use native.Mathlib.Omega.{arith}
 use borrow.Author.Tests.{ne-eqb}
 use lib.Dec.{lit≤}
 use lib.ListN.{length, length-append}
-use Rattle.format.specs.declared.operation.Operation.{Operation}
-use Rattle.format.specs.declared.operation.Operation.the-variants.{Write, Fill, Copy}
-use Rattle.format.specs.Bytes.{u16}
-use Rattle.format.specs.Operation.{addressWidth, sizeOf}
-use Rattle.format.specs.Written.{operationFields, itemBytes}
-use Rattle.format.proofs.Sizes.{size-is, width-range}
-use Rattle.format.proofs.Fields.{fieldsSize, fields-size}
-use Rattle.big_endian.specs.Put.{put}
-use Rattle.big_endian.proofs.Sequence.{put-prepend}
+use Rattle.base_format.specs.declared.operation.Operation.{Operation}
+use Rattle.base_format.specs.declared.operation.Operation.the-variants.{Write, Fill, Copy}
+use Rattle.base_format.specs.Bytes.{u16}
+use Rattle.base_format.specs.Operation.{addressWidth, sizeOf}
+use Rattle.base_format.specs.Written.{operationFields, itemBytes}
+use Rattle.base_format.proofs.Sizes.{size-is, width-range}
+use Rattle.base_format.proofs.Fields.{fieldsSize, fields-size}
+use Rattle.bytes_read.specs.Put.{put}
+use Rattle.bytes_read.proofs.Sequence.{put-prepend}
 use Rattle.bytes_put_fields.specs.Fields.{putFields, Narrow}
 use Rattle.bytes_put_fields.proofs.Laid.{put-fields}
 use Rattle.bytes_put_items.specs.Items.{operationBytes, opcodeOf, sizeIn, countBytes}

@@ -1,11 +1,11 @@
 -- The operations of a pooled file as bytes, by the width of their addresses, and the count in front of a frame.
 use Prim.Native.Nat.{ℕ}
 use mathlib.Core.List.{List, [], _∷_}
-use Rattle.format.specs.declared.operation.Operation.{Operation}
-use Rattle.format.specs.declared.operation.Operation.the-variants.{Write, Fill, Copy}
-use Rattle.format.specs.Bytes.{Field, u8, u, u16, bytesOfAll}
-use Rattle.format.specs.Operation.{addressWidth, sizeOf}
-use Rattle.format.specs.Written.{operationFields}
+use Rattle.base_format.specs.declared.operation.Operation.{Operation}
+use Rattle.base_format.specs.declared.operation.Operation.the-variants.{Write, Fill, Copy}
+use Rattle.base_format.specs.Bytes.{Field, u8, u, u16, bytesOfAll}
+use Rattle.base_format.specs.Operation.{addressWidth, sizeOf}
+use Rattle.base_format.specs.Written.{operationFields}
 
 abbrev pub operationBytes : (width : ℕ) → Operation → List ℕ
 operationBytes width operation = bytesOfAll (operationFields width operation)

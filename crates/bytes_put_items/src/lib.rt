@@ -1,19 +1,19 @@
 // The items of a pooled file (versions 2 to 4): its operations, each written at a place where it fits, and a frame's count. The width of
 // addresses, 3 or 4 bytes, is a parameter.
-use big_endian::put_u8;
-use big_endian::put_u16;
-use big_endian::put_u24;
-use big_endian::put_u32;
-use format::Operation;
-use widths::address_width;
+use base_format::Operation;
+use bytes_operation_size::address_width;
+use bytes_read::put_u8;
+use bytes_read::put_u16;
+use bytes_read::put_u24;
+use bytes_read::put_u32;
 ghost use mathlib.Core.Path.{_≡_};
 ghost use Prim.Native.Nat.{_+_, _≤_};
 ghost use lib.ListN.{length};
-ghost use Rattle.format.specs.declared.operation.Operation.the-variants.{Write, Fill, Copy};
-ghost use Rattle.format.specs.Bytes.{bytesOf};
-ghost use Rattle.format.specs.Operation.{sizeOf};
-ghost use Rattle.format.specs.Written.{itemBytes};
-ghost use Rattle.big_endian.specs.Put.{put};
+ghost use Rattle.base_format.specs.declared.operation.Operation.the-variants.{Write, Fill, Copy};
+ghost use Rattle.base_format.specs.Bytes.{bytesOf};
+ghost use Rattle.base_format.specs.Operation.{sizeOf};
+ghost use Rattle.base_format.specs.Written.{itemBytes};
+ghost use Rattle.bytes_read.specs.Put.{put};
 ghost use Rattle.bytes_put_fields.specs.Fields.{putFields};
 ghost use Rattle.bytes_put_items.specs.Items.{operationBytes, headFields, sizeIn, countBytes};
 

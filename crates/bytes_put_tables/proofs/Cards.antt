@@ -6,10 +6,10 @@ use native.Mathlib.Numerals.{add-one}
 use native.Mathlib.Omega.{arith}
 use lib.ListN.{length, getD, take}
 use lib.Seq.{take-suc}
-use Rattle.format.specs.declared.card.CardRequirement.{CardRequirement}
-use Rattle.format.specs.Bytes.{Field, raw, bytesOf, bytesOfAll}
-use Rattle.format.specs.Written.{cardFields, cardsBytes}
-use Rattle.format.proofs.Fields.{fields-size}
+use Rattle.base_format.specs.declared.card.CardRequirement.{CardRequirement}
+use Rattle.base_format.specs.Bytes.{Field, raw, bytesOf, bytesOfAll}
+use Rattle.base_format.specs.Written.{cardFields, cardsBytes}
+use Rattle.base_format.proofs.Fields.{fields-size}
 use Rattle.bytes_put_fields.proofs.Laid.{fields-append}
 use Rattle.bytes_put_tables.specs.Card.{numberFields}
 

@@ -2,10 +2,10 @@
 use Prim.Native.Nat.{ℕ}
 use mathlib.Core.Path.{_≡_, refl}
 use lib.ListN.{length}
-use Rattle.format.specs.Bytes.{bytesOfAll}
-use Rattle.format.specs.Pool.{Payload}
-use Rattle.format.specs.Written.{entryFields}
-use Rattle.format.proofs.Fields.{fields-size}
+use Rattle.base_format.specs.Bytes.{bytesOfAll}
+use Rattle.base_format.specs.Pool.{Payload}
+use Rattle.base_format.specs.Written.{entryFields}
+use Rattle.base_format.proofs.Fields.{fields-size}
 use Rattle.bytes_put_tables.specs.Entry.{fieldsOf, entryBytes}
 
 pub entry-size : (id kind size start : ℕ) → length (entryBytes id kind size start) ≡ 16

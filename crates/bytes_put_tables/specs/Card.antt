@@ -1,7 +1,7 @@
 -- A card in two parts: its numbers, and its name.
 use Prim.Native.Nat.{ℕ}
 use mathlib.Core.List.{List, [], _∷_}
-use Rattle.format.specs.Bytes.{Field, u8, u32, raw}
+use Rattle.base_format.specs.Bytes.{Field, u8, u32, raw}
 
 -- what stands before the name
 abbrev pub numberFields : (slot length offset start size : ℕ) → List Field

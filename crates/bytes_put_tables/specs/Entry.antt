@@ -1,7 +1,7 @@
 -- An entry of the pool directory by its numbers, as bytes.
 use Prim.Native.Nat.{ℕ}
 use mathlib.Core.List.{List, [], _∷_}
-use Rattle.format.specs.Bytes.{Field, u8, u16, u32, bytesOfAll}
+use Rattle.base_format.specs.Bytes.{Field, u8, u16, u32, bytesOfAll}
 
 -- the codec is 0, and the size stands twice
 abbrev pub fieldsOf : (id kind size start : ℕ) → List Field

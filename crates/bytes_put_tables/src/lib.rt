@@ -1,18 +1,18 @@
 // The tables behind the header of a pooled file: the cards of version 4, and an entry of the pool directory.
-use big_endian::put_u8;
-use big_endian::put_u16;
-use big_endian::put_u32;
-use format::CARD_SIZE;
-use format::CardRequirement;
-use format::CardTable;
+use base_format::CARD_SIZE;
+use base_format::CardRequirement;
+use base_format::CardTable;
+use bytes_read::put_u8;
+use bytes_read::put_u16;
+use bytes_read::put_u32;
 ghost use mathlib.Core.Path.{_≡_};
 ghost use Prim.Native.Nat.{_+_, _*_, _≤_};
 ghost use lib.ListN.{length};
-ghost use Rattle.format.specs.Bytes.{bytesOfAll};
-ghost use Rattle.format.specs.Card.{cardsOf};
-ghost use Rattle.format.specs.Written.{cardFields, cardsBytes};
-ghost use Rattle.format.specs.Size.{cardSize};
-ghost use Rattle.big_endian.specs.Put.{put};
+ghost use Rattle.base_format.specs.Bytes.{bytesOfAll};
+ghost use Rattle.base_format.specs.Card.{cardsOf};
+ghost use Rattle.base_format.specs.Written.{cardFields, cardsBytes};
+ghost use Rattle.base_format.specs.Size.{cardSize};
+ghost use Rattle.bytes_read.specs.Put.{put};
 ghost use Rattle.bytes_put_tables.specs.Card.{numberFields};
 ghost use Rattle.bytes_put_tables.specs.Entry.{entryBytes};
 

@@ -7,20 +7,20 @@ use native.Mathlib.Omega.{arith}
 use borrow.Author.Tests.{ne-eqb, lt-ltb, le-ltb}
 use lib.Dec.{ltb}
 use lib.ListN.{length, drop, replicate, length-replicate}
-use Rattle.format.specs.declared.header.Header.{Header}
-use Rattle.format.specs.declared.operation.WriteRecord.{WriteRecord}
-use Rattle.format.specs.Checked.{Checked, ok, refused, refuse, mapped}
-use Rattle.format.specs.Compare.{Compared, agreed, refusedFile, inFile, readVersion, compared, agree, played, imageOf, imageAfter}
-use Rattle.format.specs.Header.{headerOf}
-use Rattle.format.specs.Lent.{stored}
-use Rattle.format.specs.Size.{pcmSize}
-use Rattle.format.specs.Stream.{Stream, read}
-use Rattle.format.specs.Writes.{openingWrites}
-use Rattle.format.proofs.Accepted.{Accepted, accepted}
-use Rattle.format.proofs.Checks.{ok-is, refused-not-ok}
-use Rattle.format.proofs.Compared.{version-read, reads-version}
-use Rattle.master.proofs.Master.{IsMaster, is-master}
-use Rattle.image_store.proofs.Image.{played-length}
+use Rattle.base_format.specs.declared.header.Header.{Header}
+use Rattle.base_format.specs.declared.operation.WriteRecord.{WriteRecord}
+use Rattle.base_format.specs.Checked.{Checked, ok, refused, refuse, mapped}
+use Rattle.base_format.specs.Compare.{Compared, agreed, refusedFile, inFile, readVersion, compared, agree, played, imageOf, imageAfter}
+use Rattle.base_format.specs.Header.{headerOf}
+use Rattle.base_format.specs.Lent.{stored}
+use Rattle.base_format.specs.Size.{pcmSize}
+use Rattle.base_format.specs.Stream.{Stream, read}
+use Rattle.base_format.specs.Writes.{openingWrites}
+use Rattle.base_format.proofs.Accepted.{Accepted, accepted}
+use Rattle.base_format.proofs.Checks.{ok-is, refused-not-ok}
+use Rattle.base_format.proofs.Compared.{version-read, reads-version}
+use Rattle.base_master.proofs.Master.{IsMaster, is-master}
+use Rattle.compare_image_bytes.proofs.Image.{played-length}
 use Rattle.compare.specs.Accepted.{FramesWithin, masterDrawn, otherDrawn, agreeBy, Drawn}
 use Rattle.compare.specs.Answer.{versionHeader, ComparedWith}
 use Rattle.compare.proofs.Streams.{agree-is, master-image, other-image}

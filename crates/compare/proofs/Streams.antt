@@ -6,26 +6,26 @@ use mathlib.Core.List.{List, [], _∷_}
 use borrow.Author.Tests.{eqb-true, eqb-false}
 use lib.Dec.{eqb}
 use lib.ListN.{length, replicate}
-use Rattle.format.specs.declared.header.Header.{Header}
-use Rattle.format.specs.declared.operation.Operation.{Operation}
-use Rattle.format.specs.declared.operation.WriteRecord.{WriteRecord}
-use Rattle.format.specs.Bytes.{be, sameBytes}
-use Rattle.format.specs.Checked.{ok}
-use Rattle.format.specs.Compare.{sameWrites, coreWrites, played, imageOf, sameFrames, agree}
-use Rattle.format.specs.Header.{headerOf}
-use Rattle.format.specs.Pool.{Payload}
-use Rattle.format.specs.Size.{recordSize, masterHeaderSize, countSize, pcmSize}
-use Rattle.format.specs.Stream.{Stream, framesFrom, openingLimit}
-use Rattle.format.specs.Writes.{upward, writesWith, writesOf, writesOfAll, openingWrites}
-use Rattle.format.proofs.Accepted.{Accepted, settingFor}
-use Rattle.format.proofs.Checks.{ok-is}
-use Rattle.format.proofs.Same.{same-count}
-use Rattle.format.proofs.Steps.{frame-step}
-use Rattle.master.specs.Places.{recordsAt, framesAt, behindFrame}
-use Rattle.master.proofs.Master.{IsMaster}
-use Rattle.spans.specs.Segments.{recordWrites}
-use Rattle.spans.proofs.Streams.{record-write, operations-are}
-use Rattle.same.specs.Match.{samePart, sameFramesAt}
+use Rattle.base_format.specs.declared.header.Header.{Header}
+use Rattle.base_format.specs.declared.operation.Operation.{Operation}
+use Rattle.base_format.specs.declared.operation.WriteRecord.{WriteRecord}
+use Rattle.base_format.specs.Bytes.{be, sameBytes}
+use Rattle.base_format.specs.Checked.{ok}
+use Rattle.base_format.specs.Compare.{sameWrites, coreWrites, played, imageOf, sameFrames, agree}
+use Rattle.base_format.specs.Header.{headerOf}
+use Rattle.base_format.specs.Pool.{Payload}
+use Rattle.base_format.specs.Size.{recordSize, masterHeaderSize, countSize, pcmSize}
+use Rattle.base_format.specs.Stream.{Stream, framesFrom, openingLimit}
+use Rattle.base_format.specs.Writes.{upward, writesWith, writesOf, writesOfAll, openingWrites}
+use Rattle.base_format.proofs.Accepted.{Accepted, settingFor}
+use Rattle.base_format.proofs.Checks.{ok-is}
+use Rattle.base_format.proofs.Same.{same-count}
+use Rattle.base_format.proofs.Steps.{frame-step}
+use Rattle.base_master.specs.Places.{recordsAt, framesAt, behindFrame}
+use Rattle.base_master.proofs.Master.{IsMaster}
+use Rattle.compare_segment.specs.Segments.{recordWrites}
+use Rattle.compare_segment.proofs.Streams.{record-write, operations-are}
+use Rattle.compare_writes.specs.Match.{samePart, sameFramesAt}
 use Rattle.compare.specs.Accepted.{masterFrames, masterOpening, otherOpening, masterDrawn, otherDrawn, framesAgree, agreeBy}
 
 -- a master's records

@@ -5,13 +5,13 @@ use mathlib.Core.Bool.{Bool, false, _&&_, Bool·beq}
 use mathlib.Core.List.{List}
 use lib.Dec.{eqb}
 use lib.ListN.{length, replicate}
-use Rattle.format.specs.declared.header.Header.{Header}
-use Rattle.format.specs.declared.operation.WriteRecord.{WriteRecord}
-use Rattle.format.specs.Bytes.{sameBytes}
-use Rattle.format.specs.Compare.{played}
-use Rattle.format.specs.Size.{recordSize, masterHeaderSize, fileLimit}
-use Rattle.spans.specs.Segments.{recordWrites, operationWrites}
-use Rattle.same.specs.Match.{samePart, sameFramesAt}
+use Rattle.base_format.specs.declared.header.Header.{Header}
+use Rattle.base_format.specs.declared.operation.WriteRecord.{WriteRecord}
+use Rattle.base_format.specs.Bytes.{sameBytes}
+use Rattle.base_format.specs.Compare.{played}
+use Rattle.base_format.specs.Size.{recordSize, masterHeaderSize, fileLimit}
+use Rattle.compare_segment.specs.Segments.{recordWrites, operationWrites}
+use Rattle.compare_writes.specs.Match.{samePart, sameFramesAt}
 
 -- where a master's frames begin
 abbrev pub masterFrames : Header → ℕ

@@ -4,12 +4,12 @@ use mathlib.Core.Path.{_≡_}
 use mathlib.Core.Bool.{true, false}
 use mathlib.Core.List.{List}
 use lib.ListN.{length}
-use Rattle.format.specs.declared.header.Header.{Header}
-use Rattle.format.specs.Checked.{Checked, ok, mapped}
-use Rattle.format.specs.Compare.{Compared, agreed, refusedFile, readVersion, compared, masterImage, otherImage}
-use Rattle.format.specs.Header.{headerOf}
-use Rattle.format.specs.Rule.{numberOf, refusal}
-use Rattle.format.specs.Stream.{Stream}
+use Rattle.base_format.specs.declared.header.Header.{Header}
+use Rattle.base_format.specs.Checked.{Checked, ok, mapped}
+use Rattle.base_format.specs.Compare.{Compared, agreed, refusedFile, readVersion, compared, masterImage, otherImage}
+use Rattle.base_format.specs.Header.{headerOf}
+use Rattle.base_format.specs.Rule.{numberOf, refusal}
+use Rattle.base_format.specs.Stream.{Stream}
 use Rattle.compare.specs.declared.version.VersionCheck.{VersionCheck}
 use Rattle.compare.specs.declared.version.VersionCheck.the-variants.{Accepted, Refused}
 use Rattle.compare.specs.declared.whole.Comparison.{Comparison}

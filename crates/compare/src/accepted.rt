@@ -1,12 +1,12 @@
 // Two accepted files, a master and one of version 2, by their headers.
-use format::Header;
-use format::MASTER_HEADER_SIZE;
-use format::RECORD_SIZE;
-use image_records::draw_master;
-use image_store::same_bytes;
-use images::draw_other;
-use same::same_frames;
-use same::same_opening;
+use base_format::Header;
+use base_format::MASTER_HEADER_SIZE;
+use base_format::RECORD_SIZE;
+use compare_image_bytes::same_bytes;
+use compare_images::draw_master;
+use compare_images::draw_other;
+use compare_writes::same_frames;
+use compare_writes::same_opening;
 ghost use mathlib.Core.Path.{_≡_};
 ghost use mathlib.Core.Bool.{Bool·beq};
 ghost use Rattle.compare.specs.Accepted.{FramesWithin, framesAgree, agreeBy, Drawn};

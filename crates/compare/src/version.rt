@@ -1,9 +1,9 @@
 // A file that must have a version: the rules 1 to 21.
-use file_check::FileAnswer;
-use file_check::check_file;
-use format::Header;
-use format::Refusal;
-use format::Rule;
+use base_format::Header;
+use base_format::Refusal;
+use base_format::Rule;
+use check_file::FileAnswer;
+use check_file::check_file;
 ghost use mathlib.Core.Path.{_≡_};
 ghost use Rattle.compare.specs.Answer.{versionCheckOf, versionHeader};
 

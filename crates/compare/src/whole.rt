@@ -2,14 +2,14 @@
 use crate::accepted::compare_accepted;
 use crate::version::VersionCheck;
 use crate::version::check_version;
-use format::Header;
-use format::PCM_SIZE;
-use format::Refusal;
-use format::Rule;
+use base_format::Header;
+use base_format::PCM_SIZE;
+use base_format::Refusal;
+use base_format::Rule;
 ghost use mathlib.Core.Path.{_≡_};
-ghost use Rattle.format.specs.Checked.{ok};
-ghost use Rattle.format.specs.Compare.{agreed};
-ghost use Rattle.format.specs.Size.{pcmSize};
+ghost use Rattle.base_format.specs.Checked.{ok};
+ghost use Rattle.base_format.specs.Compare.{agreed};
+ghost use Rattle.base_format.specs.Size.{pcmSize};
 ghost use Rattle.compare.specs.Answer.{comparedOf, versionHeader, ComparedWith};
 
 // Whether the files agree, or which one is refused.

@@ -6,22 +6,22 @@ use mathlib.Core.Path.{_≡_, refl, subst}
 use native.Mathlib.Omega.{arith}
 use borrow.Author.Tests.{ltb-false, le-leb, eqb-false}
 use lib.Dec.{eqb, leb, ltb}
-use Rattle.format.specs.declared.card.CardRequirement.{CardRequirement}
-use Rattle.format.specs.declared.operation.Operation.{Operation}
-use Rattle.format.specs.declared.operation.Operation.the-variants.{Write, Fill, Copy}
-use Rattle.format.specs.declared.player.StreamPlayer.{StreamPlayer}
-use Rattle.targets.specs.declared.Target.{Target}
-use Rattle.targets.specs.declared.Target.the-variants.{Core, Pcm, Bank, Slot, Si22, Missing}
-use Rattle.format.specs.Card.{oneCardWrong}
-use Rattle.format.specs.Checked.{ok}
-use Rattle.format.specs.Operation.{Setting, Item, writeRules, fillRules, allowed, itemAt}
+use Rattle.base_format.specs.declared.card.CardRequirement.{CardRequirement}
+use Rattle.base_format.specs.declared.operation.Operation.{Operation}
+use Rattle.base_format.specs.declared.operation.Operation.the-variants.{Write, Fill, Copy}
+use Rattle.base_format.specs.declared.player.StreamPlayer.{StreamPlayer}
+use Rattle.base_targets.specs.declared.Target.{Target}
+use Rattle.base_targets.specs.declared.Target.the-variants.{Core, Pcm, Bank, Slot, Si22, Missing}
+use Rattle.base_format.specs.Card.{oneCardWrong}
+use Rattle.base_format.specs.Checked.{ok}
+use Rattle.base_format.specs.Operation.{Setting, Item, writeRules, fillRules, allowed, itemAt}
 use Rattle.play_laws.specs.Pace.{countOf, addressOf}
-use Rattle.format.specs.Player.{settingIn, slotWrong, cardUsed, poolsUsed, itemUsed}
-use Rattle.format.specs.Target.{slotOf, slotTarget, targetOf, missing, writeLimit, bulkStart, bulkLength}
-use Rattle.format.specs.Writes.{targetNumber}
-use Rattle.format.proofs.Checks.{through, passed-test, passed-last, passed-check, ok-is}
-use Rattle.format.proofs.Rules.{passes-inside, copy-allowed}
-use Rattle.format.proofs.Steps.{one-card-fine}
+use Rattle.base_format.specs.Player.{settingIn, slotWrong, cardUsed, poolsUsed, itemUsed}
+use Rattle.base_format.specs.Target.{slotOf, slotTarget, targetOf, missing, writeLimit, bulkStart, bulkLength}
+use Rattle.base_format.specs.Writes.{targetNumber}
+use Rattle.base_format.proofs.Checks.{through, passed-test, passed-last, passed-check, ok-is}
+use Rattle.base_format.proofs.Rules.{passes-inside, copy-allowed}
+use Rattle.base_format.proofs.Steps.{one-card-fine}
 use Rattle.play_laws.proofs.Used.{item-is}
 
 -- where the range of a target ends

@@ -8,27 +8,27 @@ use borrow.Author.Tests.{ltb-false, ltb-true, lt-ltb, eqb-true}
 use lib.Dec.{eqb, leb, ltb}
 use lib.ListN.{length, getD, take, drop, replicate, length-take, length-drop, length-append, length-replicate, getD-replicate}
 use lib.Seq.{getD-take, getD-drop}
-use Rattle.format.specs.declared.card.CardRequirement.{CardRequirement}
-use Rattle.format.specs.declared.operation.Operation.{Operation}
-use Rattle.format.specs.declared.operation.Operation.the-variants.{Write, Fill, Copy}
-use Rattle.format.specs.declared.pool.Pool.{Pool}
-use Rattle.format.specs.declared.player.Progress.{Progress}
-use Rattle.format.specs.declared.player.StreamPlayer.{StreamPlayer}
-use Rattle.format.specs.declared.player.WaveSource.{WaveSource}
-use Rattle.format.specs.declared.operation.WriteRecord.{WriteRecord}
-use Rattle.format.specs.Bytes.{byte, part}
-use Rattle.format.specs.Checked.{Checked, ok, refused, refuse, mapped, _>>=_, _>>_}
-use Rattle.format.specs.Operation.{Setting, Item, copyRules, allowed, itemAt}
+use Rattle.base_format.specs.declared.card.CardRequirement.{CardRequirement}
+use Rattle.base_format.specs.declared.operation.Operation.{Operation}
+use Rattle.base_format.specs.declared.operation.Operation.the-variants.{Write, Fill, Copy}
+use Rattle.base_format.specs.declared.pool.Pool.{Pool}
+use Rattle.base_format.specs.declared.player.Progress.{Progress}
+use Rattle.base_format.specs.declared.player.StreamPlayer.{StreamPlayer}
+use Rattle.base_format.specs.declared.player.WaveSource.{WaveSource}
+use Rattle.base_format.specs.declared.operation.WriteRecord.{WriteRecord}
+use Rattle.base_format.specs.Bytes.{byte, part}
+use Rattle.base_format.specs.Checked.{Checked, ok, refused, refuse, mapped, _>>=_, _>>_}
+use Rattle.base_format.specs.Operation.{Setting, Item, copyRules, allowed, itemAt}
 use Rattle.play_laws.specs.Pace.{countOf, writeAt, paced}
-use Rattle.format.specs.Player.{settingIn, cardUsed, poolUsed, poolsUsed, itemUsed, bytesAt, wavesBy, placed, Gathered, gathered}
-use Rattle.format.specs.Pool.{poolAt}
-use Rattle.format.specs.Target.{slotTarget, slotOf, targetOf, outside, kindFor}
-use Rattle.targets.specs.declared.Target.{Target}
-use Rattle.targets.specs.declared.Target.the-variants.{Core, Pcm, Bank, Slot, Si22, Missing}
-use Rattle.format.specs.Writes.{write, writesWith, targetNumber}
-use Rattle.format.proofs.Checks.{through, passed-test, passed-last, passed-check, ok-is}
-use Rattle.format.proofs.Rules.{passes-inside, copy-allowed, copy-fine}
-use Rattle.format.proofs.Writes.{length-upward, upward-at}
+use Rattle.base_format.specs.Player.{settingIn, cardUsed, poolUsed, poolsUsed, itemUsed, bytesAt, wavesBy, placed, Gathered, gathered}
+use Rattle.base_format.specs.Pool.{poolAt}
+use Rattle.base_format.specs.Target.{slotTarget, slotOf, targetOf, outside, kindFor}
+use Rattle.base_targets.specs.declared.Target.{Target}
+use Rattle.base_targets.specs.declared.Target.the-variants.{Core, Pcm, Bank, Slot, Si22, Missing}
+use Rattle.base_format.specs.Writes.{write, writesWith, targetNumber}
+use Rattle.base_format.proofs.Checks.{through, passed-test, passed-last, passed-check, ok-is}
+use Rattle.base_format.proofs.Rules.{passes-inside, copy-allowed, copy-fine}
+use Rattle.base_format.proofs.Writes.{length-upward, upward-at}
 use Rattle.play_laws.proofs.Used.{item-is}
 
 -- ONE OPERATION

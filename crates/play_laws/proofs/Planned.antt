@@ -6,19 +6,19 @@ use mathlib.Core.Path.{_≡_, refl, sym, ap, _∙_}
 use native.Mathlib.Omega.{arith}
 use lib.Dec.{eqb, leb, ltb}
 use lib.ListN.{length, take, drop, length-append, length-take, length-drop}
-use Rattle.format.specs.declared.player.Part.{Part}
-use Rattle.format.specs.declared.player.Part.the-variants.{Between, Opening, Frame, Closing}
-use Rattle.format.specs.declared.player.Progress.{Progress}
-use Rattle.format.specs.declared.player.StreamPlayer.{StreamPlayer}
-use Rattle.format.specs.declared.operation.WriteRecord.{WriteRecord}
-use Rattle.format.specs.Checked.{Checked, ok, refused, refuse, mapped, _>>=_, _>>_}
+use Rattle.base_format.specs.declared.player.Part.{Part}
+use Rattle.base_format.specs.declared.player.Part.the-variants.{Between, Opening, Frame, Closing}
+use Rattle.base_format.specs.declared.player.Progress.{Progress}
+use Rattle.base_format.specs.declared.player.StreamPlayer.{StreamPlayer}
+use Rattle.base_format.specs.declared.operation.WriteRecord.{WriteRecord}
+use Rattle.base_format.specs.Checked.{Checked, ok, refused, refuse, mapped, _>>=_, _>>_}
 use Rattle.play_laws.specs.Pace.{Plan, planOf, planFrame, planOpening, planClosing, plan, planned}
-use Rattle.format.specs.Next.{nextPart}
-use Rattle.format.specs.State.{partNumber, partOf, moved}
-use Rattle.format.specs.Player.{Gathered, gathered, Played, openingBegun, frameBegun, frameEnded, closingAt, operationsLeft, playFrame, playOpening, playClosing, play, belongs, as25, call, runAfter}
-use Rattle.format.specs.Stream.{openingLimit}
-use Rattle.format.specs.Writes.{silence, closingWrites, closingCount}
-use Rattle.format.proofs.Checks.{refused-not-ok, through, passed-test, passed-check, ok-is}
+use Rattle.base_format.specs.Next.{nextPart}
+use Rattle.base_format.specs.State.{partNumber, partOf, moved}
+use Rattle.base_format.specs.Player.{Gathered, gathered, Played, openingBegun, frameBegun, frameEnded, closingAt, operationsLeft, playFrame, playOpening, playClosing, play, belongs, as25, call, runAfter}
+use Rattle.base_format.specs.Stream.{openingLimit}
+use Rattle.base_format.specs.Writes.{silence, closingWrites, closingCount}
+use Rattle.base_format.proofs.Checks.{refused-not-ok, through, passed-test, passed-check, ok-is}
 use Rattle.play_laws.proofs.Paced.{paced-is, room-taken}
 
 plan-is : {a b : ℕ} (complete : Bool) (next : StreamPlayer) → a ≡ b → _≡_ {A = Checked Plan} (ok (record { count = a; complete = complete; next = next })) (ok (record { count = b; complete = complete; next = next }))

@@ -8,30 +8,30 @@ use native.Mathlib.Omega.{arith}
 use borrow.Author.Tests.{le-ltb}
 use lib.Dec.{eqb}
 use lib.ListN.{length, getD, length-take, length-drop, length-replicate}
-use Rattle.format.specs.declared.card.CardRequirement.{CardRequirement}
-use Rattle.format.specs.declared.header.Header.{Header}
-use Rattle.format.specs.declared.operation.Operation.{Operation}
-use Rattle.format.specs.declared.operation.Operation.the-variants.{Write, Fill, Copy}
-use Rattle.format.specs.declared.player.Progress.{Progress}
-use Rattle.targets.specs.declared.Target.{Target}
-use Rattle.format.specs.Bytes.{byte, part}
-use Rattle.format.specs.Card.{cardsFrom}
-use Rattle.format.specs.Checked.{ok}
-use Rattle.format.specs.Header.{headerSize, headerOf}
-use Rattle.format.specs.Operation.{Setting, Item, fillRules, allowed, operationAt, recordAt, itemAt}
-use Rattle.format.specs.State.{playerOf}
-use Rattle.format.specs.Player.{slotWrong, cardUsed, poolUsed, poolsUsed, itemUsed, bytesAt}
-use Rattle.format.specs.Pool.{noPool, poolAt}
-use Rattle.format.specs.Stream.{Stream}
-use Rattle.format.specs.Target.{missing, slotOf}
-use Rattle.format.specs.Writes.{upward, writesWith, writesOf, targetNumber}
-use Rattle.format.proofs.Accepted.{Accepted, settingFor}
-use Rattle.format.proofs.Checks.{passed-test, passed-last, ok-is}
-use Rattle.format.proofs.Cards.{table-cards}
-use Rattle.format.proofs.Pools.{PoolIs, pools-are}
-use Rattle.format.proofs.Rules.{passes-inside, copy-fine}
-use Rattle.format.proofs.Steps.{card-step, record-is, operation-is}
-use Rattle.format.proofs.Writes.{length-upward}
+use Rattle.base_format.specs.declared.card.CardRequirement.{CardRequirement}
+use Rattle.base_format.specs.declared.header.Header.{Header}
+use Rattle.base_format.specs.declared.operation.Operation.{Operation}
+use Rattle.base_format.specs.declared.operation.Operation.the-variants.{Write, Fill, Copy}
+use Rattle.base_format.specs.declared.player.Progress.{Progress}
+use Rattle.base_targets.specs.declared.Target.{Target}
+use Rattle.base_format.specs.Bytes.{byte, part}
+use Rattle.base_format.specs.Card.{cardsFrom}
+use Rattle.base_format.specs.Checked.{ok}
+use Rattle.base_format.specs.Header.{headerSize, headerOf}
+use Rattle.base_format.specs.Operation.{Setting, Item, fillRules, allowed, operationAt, recordAt, itemAt}
+use Rattle.base_format.specs.State.{playerOf}
+use Rattle.base_format.specs.Player.{slotWrong, cardUsed, poolUsed, poolsUsed, itemUsed, bytesAt}
+use Rattle.base_format.specs.Pool.{noPool, poolAt}
+use Rattle.base_format.specs.Stream.{Stream}
+use Rattle.base_format.specs.Target.{missing, slotOf}
+use Rattle.base_format.specs.Writes.{upward, writesWith, writesOf, targetNumber}
+use Rattle.base_format.proofs.Accepted.{Accepted, settingFor}
+use Rattle.base_format.proofs.Checks.{passed-test, passed-last, ok-is}
+use Rattle.base_format.proofs.Cards.{table-cards}
+use Rattle.base_format.proofs.Pools.{PoolIs, pools-are}
+use Rattle.base_format.proofs.Rules.{passes-inside, copy-fine}
+use Rattle.base_format.proofs.Steps.{card-step, record-is, operation-is}
+use Rattle.base_format.proofs.Writes.{length-upward}
 
 -- CARDS
 

@@ -5,21 +5,21 @@ use mathlib.Core.Bool.{Bool, true, false, cond, not}
 use mathlib.Core.List.{List}
 use lib.ListN.{length}
 use lib.Dec.{eqb, leb, ltb}
-use Rattle.format.specs.declared.operation.Operation.{Operation}
-use Rattle.format.specs.declared.operation.Operation.the-variants.{Write, Fill, Copy}
-use Rattle.format.specs.declared.player.Part.{Part}
-use Rattle.format.specs.declared.player.Part.the-variants.{Between, Opening, Frame, Closing}
-use Rattle.format.specs.declared.player.Progress.{Progress}
-use Rattle.format.specs.declared.player.StreamPlayer.{StreamPlayer}
-use Rattle.format.specs.declared.operation.WriteRecord.{WriteRecord}
-use Rattle.format.specs.Bytes.{byte}
-use Rattle.format.specs.Checked.{Checked, ok, refuse, _>>=_, _>>_}
-use Rattle.format.specs.State.{partOf, moved}
-use Rattle.format.specs.Player.{itemUsed, wavesBy, placed, Played, openingBegun, frameBegun, frameEnded, closingAt, operationsLeft, belongs, as25}
-use Rattle.format.specs.Pool.{poolAt}
-use Rattle.format.specs.Stream.{openingLimit}
-use Rattle.format.specs.Next.{nextPart, byNext}
-use Rattle.format.specs.Writes.{write, closingCount}
+use Rattle.base_format.specs.declared.operation.Operation.{Operation}
+use Rattle.base_format.specs.declared.operation.Operation.the-variants.{Write, Fill, Copy}
+use Rattle.base_format.specs.declared.player.Part.{Part}
+use Rattle.base_format.specs.declared.player.Part.the-variants.{Between, Opening, Frame, Closing}
+use Rattle.base_format.specs.declared.player.Progress.{Progress}
+use Rattle.base_format.specs.declared.player.StreamPlayer.{StreamPlayer}
+use Rattle.base_format.specs.declared.operation.WriteRecord.{WriteRecord}
+use Rattle.base_format.specs.Bytes.{byte}
+use Rattle.base_format.specs.Checked.{Checked, ok, refuse, _>>=_, _>>_}
+use Rattle.base_format.specs.State.{partOf, moved}
+use Rattle.base_format.specs.Player.{itemUsed, wavesBy, placed, Played, openingBegun, frameBegun, frameEnded, closingAt, operationsLeft, belongs, as25}
+use Rattle.base_format.specs.Pool.{poolAt}
+use Rattle.base_format.specs.Stream.{openingLimit}
+use Rattle.base_format.specs.Next.{nextPart, byNext}
+use Rattle.base_format.specs.Writes.{write, closingCount}
 
 -- how many writes an operation makes
 abbrev pub countOf : Operation → ℕ

@@ -5,28 +5,28 @@ use mathlib.Core.List.{List, [], _++_, map, append-assoc}
 use native.Mathlib.Omega.{arith}
 use lib.ListN.{length, take, length-append, length-map}
 use lib.Seq.{length-take-le}
-use Rattle.format.specs.declared.header.Header.{Header}
-use Rattle.format.specs.declared.operation.Operation.{Operation}
-use Rattle.format.specs.Bytes.{bytesOfAll}
-use Rattle.format.specs.Header.{headerSize}
-use Rattle.format.specs.Operation.{sizeOf}
-use Rattle.format.specs.Repack.{value, toPcm, toCores, pieces, packedPiece, pcmPools, wavePool, pcmFill, pcmCopy, repacked}
-use Rattle.format.specs.Stream.{Stream}
-use Rattle.format.specs.Written.{operationsBytes, framesBytes, directoryBytes, payloadsBytes, cardsBytes, headerIn, headerFields, payloadsPlace, openingPlace, framesPlace, endPlace, bodyBytes, written}
-use Rattle.format.proofs.Fields.{fields-size}
-use Rattle.format.proofs.Written.{directory-size}
-use Rattle.master.specs.Places.{recordsAt, framesAt, masterOf}
-use Rattle.wave_table.specs.Table.{wavesIn}
-use Rattle.master.specs.Result.{pcmBytes, coreBytes, frameBytes, allWaves}
-use Rattle.master.proofs.Pieces.{records-count}
-use Rattle.master.proofs.Result.{write-six, frame-bytes-size}
-use Rattle.repack_directory.specs.Directory.{directoryOf}
-use Rattle.repack_payloads.specs.Payloads.{wavesBytes}
-use Rattle.repack_opening.specs.Opening.{fillPart, copyPart, openingPart}
-use Rattle.repack_payloads.proofs.Payloads.{waves-size}
+use Rattle.base_format.specs.declared.header.Header.{Header}
+use Rattle.base_format.specs.declared.operation.Operation.{Operation}
+use Rattle.base_format.specs.Bytes.{bytesOfAll}
+use Rattle.base_format.specs.Header.{headerSize}
+use Rattle.base_format.specs.Operation.{sizeOf}
+use Rattle.base_format.specs.Repack.{value, toPcm, toCores, pieces, packedPiece, pcmPools, wavePool, pcmFill, pcmCopy, repacked}
+use Rattle.base_format.specs.Stream.{Stream}
+use Rattle.base_format.specs.Written.{operationsBytes, framesBytes, directoryBytes, payloadsBytes, cardsBytes, headerIn, headerFields, payloadsPlace, openingPlace, framesPlace, endPlace, bodyBytes, written}
+use Rattle.base_format.proofs.Fields.{fields-size}
+use Rattle.base_format.proofs.Written.{directory-size}
+use Rattle.base_master.specs.Places.{recordsAt, framesAt, masterOf}
+use Rattle.repack_wave_table.specs.Table.{wavesIn}
+use Rattle.base_master.specs.Result.{pcmBytes, coreBytes, frameBytes, allWaves}
+use Rattle.base_master.proofs.Pieces.{records-count}
+use Rattle.base_master.proofs.Result.{write-six, frame-bytes-size}
+use Rattle.repack_put_directory.specs.Directory.{directoryOf}
+use Rattle.repack_put_payloads.specs.Payloads.{wavesBytes}
+use Rattle.repack_put_opening.specs.Opening.{fillPart, copyPart, openingPart}
+use Rattle.repack_put_payloads.proofs.Payloads.{waves-size}
 use Rattle.repack_layout.specs.declared.Layout.{Layout}
 use Rattle.repack_layout.specs.Layout.{pcmPool, layoutOf, newHeader, Known, frontOf, FrontFits}
-use Rattle.master.proofs.Sections.{operations-append, payloads-append, five-size, pcm-payload, record-each, split-count, frames-count}
+use Rattle.base_master.proofs.Sections.{operations-append, payloads-append, five-size, pcm-payload, record-each, split-count, frames-count}
 use Rattle.repack_layout.proofs.Sections.{pcm-pools, pcm-copies, fills-few, copies-few, waves-payload, directory-of}
 
 -- ---- the stream

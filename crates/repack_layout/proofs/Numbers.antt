@@ -5,17 +5,17 @@ use mathlib.Core.List.{List, _++_}
 use native.Mathlib.Omega.{arith}
 use borrow.Author.Tests.{lt-ltb, le-ltb}
 use lib.ListN.{length, length-append}
-use Rattle.format.specs.declared.header.Header.{Header}
-use Rattle.format.specs.Bytes.{bytesOfAll}
-use Rattle.format.specs.Header.{headerSize}
-use Rattle.format.specs.Repack.{pcmFill}
-use Rattle.format.specs.Written.{headerFields}
-use Rattle.format.proofs.Fields.{fields-size}
-use Rattle.master.specs.Result.{pcmBytes}
-use Rattle.repack_directory.specs.Directory.{directoryOf}
-use Rattle.repack_directory.proofs.Directory.{directory-none, directory-some}
-use Rattle.repack_payloads.specs.Payloads.{wavesBytes}
-use Rattle.repack_payloads.proofs.Payloads.{waves-size}
+use Rattle.base_format.specs.declared.header.Header.{Header}
+use Rattle.base_format.specs.Bytes.{bytesOfAll}
+use Rattle.base_format.specs.Header.{headerSize}
+use Rattle.base_format.specs.Repack.{pcmFill}
+use Rattle.base_format.specs.Written.{headerFields}
+use Rattle.base_format.proofs.Fields.{fields-size}
+use Rattle.base_master.specs.Result.{pcmBytes}
+use Rattle.repack_put_directory.specs.Directory.{directoryOf}
+use Rattle.repack_put_directory.proofs.Directory.{directory-none, directory-some}
+use Rattle.repack_put_payloads.specs.Payloads.{wavesBytes}
+use Rattle.repack_put_payloads.proofs.Payloads.{waves-size}
 use Rattle.repack_layout.specs.declared.Layout.{Layout}
 use Rattle.repack_layout.specs.Layout.{pcmPool, newHeader, frontOf, FrontFits}
 

@@ -6,15 +6,15 @@ use native.Mathlib.Numerals.{add-one}
 use native.Mathlib.Omega.{arith}
 use lib.ListN.{length, take, drop}
 use lib.Seq.{drop-cons}
-use Rattle.format.specs.Repack.{pcmPools, wavePool, pcmFill, pcmCopy}
-use Rattle.format.specs.Written.{directoryBytes, payloadsBytes}
-use Rattle.format.proofs.Written.{operations-count}
-use Rattle.master.specs.Places.{waveAt}
+use Rattle.base_format.specs.Repack.{pcmPools, wavePool, pcmFill, pcmCopy}
+use Rattle.base_format.specs.Written.{directoryBytes, payloadsBytes}
+use Rattle.base_format.proofs.Written.{operations-count}
+use Rattle.base_master.specs.Places.{waveAt}
 use Rattle.bytes_put_tables.specs.Entry.{entryBytes}
-use Rattle.repack_directory.specs.Directory.{waveEntries, directoryOf}
-use Rattle.repack_payloads.specs.Payloads.{wavesBytes}
-use Rattle.repack_opening.specs.Opening.{fillPart, copyPart}
-use Rattle.repack_payloads.proofs.Payloads.{wave-size}
+use Rattle.repack_put_directory.specs.Directory.{waveEntries, directoryOf}
+use Rattle.repack_put_payloads.specs.Payloads.{wavesBytes}
+use Rattle.repack_put_opening.specs.Opening.{fillPart, copyPart}
+use Rattle.repack_put_payloads.proofs.Payloads.{wave-size}
 use Rattle.repack_layout.specs.Layout.{pcmPool}
 
 -- ---- the PCM bytes

@@ -3,18 +3,18 @@ use Prim.Native.Nat.{ℕ, zero, suc, _+_, _*_, _-_, _≤_}
 use mathlib.Core.List.{List, _++_}
 use mathlib.Core.Path.{_≡_}
 use lib.ListN.{length}
-use Rattle.format.specs.declared.header.Header.{Header}
-use Rattle.format.specs.Bytes.{bytesOfAll}
-use Rattle.format.specs.Operation.{sizeOf}
-use Rattle.format.specs.Repack.{pcmFill}
-use Rattle.format.specs.Size.{recordSize, masterHeaderSize, pooledHeaderSize, entrySize, waveSize, fileLimit}
-use Rattle.format.specs.Written.{headerFields}
-use Rattle.master.specs.Places.{framesEnd}
-use Rattle.master.specs.Result.{pcmBytes}
-use Rattle.repack.specs.Measured.{Measured}
-use Rattle.repack_directory.specs.Directory.{directoryOf}
-use Rattle.repack_payloads.specs.Payloads.{wavesBytes, AllInside}
-use Rattle.repack_opening.specs.Opening.{fillPart, copyPart}
+use Rattle.base_format.specs.declared.header.Header.{Header}
+use Rattle.base_format.specs.Bytes.{bytesOfAll}
+use Rattle.base_format.specs.Operation.{sizeOf}
+use Rattle.base_format.specs.Repack.{pcmFill}
+use Rattle.base_format.specs.Size.{recordSize, masterHeaderSize, pooledHeaderSize, entrySize, waveSize, fileLimit}
+use Rattle.base_format.specs.Written.{headerFields}
+use Rattle.base_master.specs.Places.{framesEnd}
+use Rattle.base_master.specs.Result.{pcmBytes}
+use Rattle.repack_measure.specs.Measured.{Measured}
+use Rattle.repack_put_directory.specs.Directory.{directoryOf}
+use Rattle.repack_put_payloads.specs.Payloads.{wavesBytes, AllInside}
+use Rattle.repack_put_opening.specs.Opening.{fillPart, copyPart}
 use Rattle.repack_layout.specs.declared.Layout.{Layout}
 
 -- one pool for PCM bytes, if there are any

@@ -1,19 +1,19 @@
 // Where the parts of a repacked file start, by the numbers that were measured, and its header.
-use format::ENTRY_SIZE;
-use format::Header;
-use format::PCM_SIZE;
-use format::POOLED_HEADER_SIZE;
-use format::WAVE_SIZE;
-use repack_items::WIDTH;
-use repack_opening::copy_size;
-use repack_opening::fill_size;
-use widths::operation_size;
+use base_format::ENTRY_SIZE;
+use base_format::Header;
+use base_format::PCM_SIZE;
+use base_format::POOLED_HEADER_SIZE;
+use base_format::WAVE_SIZE;
+use bytes_operation_size::operation_size;
+use repack_put_items::WIDTH;
+use repack_put_opening::copy_size;
+use repack_put_opening::fill_size;
 ghost use mathlib.Core.Path.{_≡_};
 ghost use Prim.Native.Nat.{_*_, _≤_};
 ghost use lib.ListN.{length};
-ghost use Rattle.format.specs.Operation.{sizeOf};
-ghost use Rattle.format.specs.Repack.{pcmFill};
-ghost use Rattle.format.specs.Size.{fileLimit};
+ghost use Rattle.base_format.specs.Operation.{sizeOf};
+ghost use Rattle.base_format.specs.Repack.{pcmFill};
+ghost use Rattle.base_format.specs.Size.{fileLimit};
 ghost use Rattle.repack_layout.specs.Layout.{pcmPool, layoutOf, newHeader};
 
 // How many pools and opening operations there are, where payloads, opening and frames start, and where the file ends.

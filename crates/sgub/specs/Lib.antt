@@ -1,1 +1,1 @@
-pub mod Play
+pub mod Player

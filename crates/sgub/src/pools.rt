@@ -1,11 +1,11 @@
 // The pools of a file, for C and Rust: the file is checked once, and its directory listed into a lent run of entries.
-use pool_list::SgubPoolEntry;
-use pool_list::SgubPools;
-use pool_list::pool_listing;
-use pool_list::store_pools;
+use sgub_pool_list::SgubPoolEntry;
+use sgub_pool_list::SgubPools;
+use sgub_pool_list::pool_listing;
+use sgub_pool_list::store_pools;
 ghost use mathlib.Core.Path.{_≡_};
-ghost use Rattle.file_check.specs.Answer.{recorded};
-ghost use Rattle.pool_list.specs.Listing.{poolsOn, poolsAfter};
+ghost use Rattle.check_file.specs.Answer.{recorded};
+ghost use Rattle.sgub_pool_list.specs.Listing.{poolsOn, poolsAfter};
 
 // As many entries as the run holds, from id 0 on; records behind them stay as they were, and all of them where the file is refused.
 #[no_mangle]

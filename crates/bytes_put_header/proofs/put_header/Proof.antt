@@ -3,9 +3,9 @@ use mathlib.Core.Path.{refl, sym, _∙_}
 use mathlib.Core.List.{[], append-nil}
 use native.Mathlib.Omega.{arith}
 use borrow.Author.Needs.{needs}
-use Rattle.format.specs.Bytes.{bytesOfAll}
-use Rattle.format.specs.Written.{headerFields}
-use Rattle.format.proofs.Fields.{fields-size}
+use Rattle.base_format.specs.Bytes.{bytesOfAll}
+use Rattle.base_format.specs.Written.{headerFields}
+use Rattle.base_format.proofs.Fields.{fields-size}
 use Rattle.bytes_put_fields.proofs.Writing.{Writing, wrote, ends}
 use Rattle.bytes_put_header.specs.Fields.{periodFields}
 use Rattle.bytes_put_header.proofs.Fields.{last, size-cards, size-least, last-none, last-period, three-written}

@@ -1,6 +1,6 @@
 -- The fields of a COPY, one after the other, are the COPY.
 use borrow.Author.Needs.{needs}
-use Rattle.format.specs.declared.operation.Operation.the-variants.{Copy}
+use Rattle.base_format.specs.declared.operation.Operation.the-variants.{Copy}
 use Rattle.bytes_put_items.proofs.Items.{put-operation}
 use Rattle.bytes_put_items.proofs.put_copy.Statement.{statement}
 use Rattle.bytes_put_items.proofs.put_copy.Tie as tie

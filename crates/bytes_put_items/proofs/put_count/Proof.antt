@@ -1,7 +1,7 @@
 -- A count is the number in two bytes.
 use borrow.Author.Needs.{needs}
 use mathlib.Core.List.{append-nil}
-use Rattle.format.specs.Bytes.{bytesOfAll}
+use Rattle.base_format.specs.Bytes.{bytesOfAll}
 use Rattle.bytes_put_items.proofs.put_count.Statement.{statement}
 use Rattle.bytes_put_items.proofs.put_count.Tie as tie
 

@@ -1,6 +1,6 @@
 -- The fields of a FILL, one after the other, are the FILL.
 use borrow.Author.Needs.{needs}
-use Rattle.format.specs.declared.operation.Operation.the-variants.{Fill}
+use Rattle.base_format.specs.declared.operation.Operation.the-variants.{Fill}
 use Rattle.bytes_put_items.proofs.Items.{put-operation}
 use Rattle.bytes_put_items.proofs.put_fill.Statement.{statement}
 use Rattle.bytes_put_items.proofs.put_fill.Tie as tie

@@ -2,8 +2,8 @@
 use borrow.Author.Needs.{needs}
 use native.Mathlib.Omega.{arith}
 use mathlib.Core.Path.{_≡_, _∙_}
-use Rattle.format.specs.declared.operation.Operation.{Operation}
-use Rattle.format.specs.Written.{itemBytes}
+use Rattle.base_format.specs.declared.operation.Operation.{Operation}
+use Rattle.base_format.specs.Written.{itemBytes}
 use Rattle.bytes_put_items.specs.Items.{operationBytes}
 use Rattle.bytes_put_items.proofs.Items.{item-is}
 use Rattle.bytes_put_items.proofs.put_item.Statement.{statement}

@@ -1,6 +1,6 @@
 -- The fields of a WRITE, one after the other, are the WRITE.
 use borrow.Author.Needs.{needs}
-use Rattle.format.specs.declared.operation.Operation.the-variants.{Write}
+use Rattle.base_format.specs.declared.operation.Operation.the-variants.{Write}
 use Rattle.bytes_put_items.proofs.Items.{put-operation}
 use Rattle.bytes_put_items.proofs.put_write.Statement.{statement}
 use Rattle.bytes_put_items.proofs.put_write.Tie as tie

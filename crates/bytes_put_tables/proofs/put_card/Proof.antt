@@ -2,9 +2,9 @@
 use mathlib.Core.Path.{sym}
 use native.Mathlib.Omega.{arith}
 use borrow.Author.Needs.{needs}
-use Rattle.format.specs.Bytes.{bytesOfAll}
-use Rattle.format.proofs.Fields.{fields-size}
-use Rattle.big_endian.proofs.Sequence.{put-next}
+use Rattle.base_format.specs.Bytes.{bytesOfAll}
+use Rattle.base_format.proofs.Fields.{fields-size}
+use Rattle.bytes_read.proofs.Sequence.{put-next}
 use Rattle.bytes_put_tables.proofs.Cards.{numbersOf, card-parts, card-size}
 use Rattle.bytes_put_tables.proofs.put_card.Statement.{statement}
 use Rattle.bytes_put_tables.proofs.put_card.Tie as tie

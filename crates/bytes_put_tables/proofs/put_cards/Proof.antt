@@ -5,11 +5,11 @@ use mathlib.Core.List.{_++_}
 use native.Mathlib.Omega.{arith}
 use borrow.Author.Needs.{needs}
 use lib.ListN.{length, getD, take, length-append}
-use Rattle.format.specs.Bytes.{bytesOfAll}
-use Rattle.format.specs.Written.{cardFields, cardsBytes}
-use Rattle.format.proofs.Cards.{eight, pastCard}
-use Rattle.big_endian.specs.Put.{put}
-use Rattle.big_endian.proofs.Sequence.{put-none, put-append}
+use Rattle.base_format.specs.Bytes.{bytesOfAll}
+use Rattle.base_format.specs.Written.{cardFields, cardsBytes}
+use Rattle.base_format.proofs.Cards.{eight, pastCard}
+use Rattle.bytes_read.specs.Put.{put}
+use Rattle.bytes_read.proofs.Sequence.{put-none, put-append}
 use Rattle.bytes_put_tables.proofs.Cards.{card-size, cards-none, cards-next}
 use Rattle.bytes_put_tables.proofs.put_cards.Statement.{statement}
 use Rattle.bytes_put_tables.proofs.put_cards.Tie as tie

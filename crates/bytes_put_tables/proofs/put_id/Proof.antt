@@ -8,7 +8,7 @@ use native.Mathlib.Omega.{arith}
 use borrow.Author.Needs.{needs}
 use lib.ListN.{length, drop, getD, drop-of-length-le}
 use lib.Seq.{drop-cons}
-use Rattle.big_endian.proofs.Sequence.{put-byte}
+use Rattle.bytes_read.proofs.Sequence.{put-byte}
 use Rattle.bytes_put_fields.proofs.Writing.{Writing, starts, wrote, ends}
 use Rattle.bytes_put_tables.proofs.put_id.Statement.{statement}
 use Rattle.bytes_put_tables.proofs.put_id.Tie as tie

@@ -1,7 +1,7 @@
 -- `sgub::sgub_card` meets its contract: it is the answer of `check_file`, with the card that `card_of` takes from its table.
 use mathlib.Core.Path.{ap, _∙_}
-use Rattle.file_check.specs.Answer.{Whole}
-use Rattle.answers.specs.Surface.{cardOn}
+use Rattle.check_file.specs.Answer.{Whole}
+use Rattle.sgub_answers.specs.Surface.{cardOn}
 use borrow.Author.Needs.{needs}
 use Rattle.sgub.proofs.sgub_card.Statement.{statement}
 use Rattle.sgub.proofs.sgub_card.Tie as tie

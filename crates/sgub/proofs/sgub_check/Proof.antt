@@ -1,7 +1,7 @@
 -- `sgub::sgub_check` meets its contract: it is the answer of `check_file`, which `verdict_of` puts into numbers.
 use mathlib.Core.Path.{ap, _∙_}
-use Rattle.file_check.specs.Answer.{Whole}
-use Rattle.answers.specs.Surface.{verdictOn}
+use Rattle.check_file.specs.Answer.{Whole}
+use Rattle.sgub_answers.specs.Surface.{verdictOn}
 use borrow.Author.Needs.{needs}
 use Rattle.sgub.proofs.sgub_check.Statement.{statement}
 use Rattle.sgub.proofs.sgub_check.Tie as tie

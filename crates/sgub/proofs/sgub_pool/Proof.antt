@@ -1,9 +1,9 @@
 -- `sgub::sgub_pool` meets its contract: it is the answer of `find_pool`, which `pool_of` puts into numbers; they name the pool's kind and payload.
 use mathlib.Core.Path.{ap, _∙_}
-use Rattle.format.specs.Bytes.{part}
-use Rattle.answers.specs.declared.pool.SgubPool.{SgubPool}
-use Rattle.answers.specs.Surface.{poolOn}
-use Rattle.answers.proofs.Pools.{payload-told, kind-told}
+use Rattle.base_format.specs.Bytes.{part}
+use Rattle.sgub_answers.specs.declared.pool.SgubPool.{SgubPool}
+use Rattle.sgub_answers.specs.Surface.{poolOn}
+use Rattle.sgub_answers.proofs.Pools.{payload-told, kind-told}
 use borrow.Author.Needs.{needs}
 use Rattle.sgub.proofs.sgub_pool.Statement.{statement}
 use Rattle.sgub.proofs.sgub_pool.Tie as tie

@@ -1,9 +1,9 @@
 -- `compare::version::check_version` meets its contract: the check's answer, and for an accepted file the version of its header.
 use borrow.Author.Needs.{needs}
 use mathlib.Core.Path.{sym, ap, _∙_}
-use Rattle.format.specs.declared.header.Header.{Header}
-use Rattle.format.specs.Checked.{ok}
-use Rattle.file_check.proofs.Answers.{accepted-as, refused-as}
+use Rattle.base_format.specs.declared.header.Header.{Header}
+use Rattle.base_format.specs.Checked.{ok}
+use Rattle.check_file.proofs.Answers.{accepted-as, refused-as}
 use Rattle.compare.proofs.Answers.{version-other, version-found, version-none}
 use Rattle.compare.proofs.version.check_version.Statement.{statement}
 use Rattle.compare.proofs.version.check_version.Tie as tie

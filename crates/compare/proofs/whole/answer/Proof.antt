@@ -1,6 +1,6 @@
 -- `compare::whole::answer` meets its contract, by cases on whether they agree.
 use mathlib.Core.Path.{sym, ap}
-use Rattle.format.specs.Compare.{agreed}
+use Rattle.base_format.specs.Compare.{agreed}
 use Rattle.compare.proofs.whole.answer.Statement.{statement}
 use Rattle.compare.proofs.whole.answer.Tie as tie
 

@@ -3,8 +3,8 @@
 use borrow.Author.Needs.{needs}
 use mathlib.Core.Path.{_≡_, refl, sym, ap, _∙_}
 use lib.ListN.{length}
-use Rattle.format.specs.declared.header.Header.{Header}
-use Rattle.format.specs.Checked.{Checked}
+use Rattle.base_format.specs.declared.header.Header.{Header}
+use Rattle.base_format.specs.Checked.{Checked}
 use Rattle.compare.specs.declared.version.VersionCheck.{VersionCheck}
 use Rattle.compare.specs.Answer.{versionCheckOf}
 use Rattle.compare.proofs.Answers.{has, refused-with, master-refused, other-refused}

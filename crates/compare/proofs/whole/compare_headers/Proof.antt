@@ -5,9 +5,9 @@ use native.Mathlib.Omega.{arith}
 use mathlib.Core.Path.{sym, ap}
 use lib.ListN.{take}
 use lib.Seq.{length-take-le}
-use Rattle.format.specs.declared.rule.Refusal.{Refusal}
-use Rattle.format.specs.Compare.{refusedFile}
-use Rattle.format.specs.Rule.{numberOf}
+use Rattle.base_format.specs.declared.rule.Refusal.{Refusal}
+use Rattle.base_format.specs.Compare.{refusedFile}
+use Rattle.base_format.specs.Rule.{numberOf}
 use Rattle.compare.proofs.Answers.{fits, with-short-master, with-short-other, with-images}
 use Rattle.compare.proofs.whole.compare_headers.Statement.{statement}
 use Rattle.compare.proofs.whole.compare_headers.Tie as tie

@@ -39,25 +39,25 @@ use denote.Triple.Clauses.{Lasts, ensured, lasts}
 use denote.Triple.Table.{entered, cited}
 use denote.Triple.Walked.{says, Stays, stay-none-slice, gave-slice, walkOf, goes-none-slice, goes-gave-slice, Walks, ends-at, walked, walk-meets}
 use denote.Exit.{yes}
-use Rattle.file_check.specs.Answer.{recorded}
-use Rattle.pool_list.specs.declared.SgubPoolEntry.{SgubPoolEntry}
-use Rattle.pool_list.specs.declared.listing.PoolListing.{PoolListing}
-use Rattle.pool_list.specs.Entries.{entriesStored}
-use Rattle.pool_list.specs.Listing.{listingOn}
-use Rattle.pool_list.proofs.Listed.{run-is, answer-is}
-use Rattle.pool_list.proofs.SgubPoolEntry as T
-use Rattle.pool_list.proofs.listing.PoolListing as S
-use Rattle.pool_list.proofs.listing.PoolListing.Laws as S′
-use Rattle.pool_list.proofs.listing.SgubPools as Y
-use Rattle.pool_list.proofs.listing.SgubPools.Laws as Y′
-use Rattle.pool_list.proofs.pool_listing as pl
-use Rattle.pool_list.proofs.pool_listing.Symbol as pl-def
-use Rattle.pool_list.proofs.pool_listing.Symbol.{name as #pool-list·pool-listing}
-use Rattle.pool_list.proofs.pool_listing.Met as pl-thm
-use Rattle.pool_list.proofs.store_pools as sp
-use Rattle.pool_list.proofs.store_pools.Symbol as sp-def
-use Rattle.pool_list.proofs.store_pools.Symbol.{name as #pool-list·store-pools}
-use Rattle.pool_list.proofs.store_pools.Met as sp-thm
+use Rattle.check_file.specs.Answer.{recorded}
+use Rattle.sgub_pool_list.specs.declared.SgubPoolEntry.{SgubPoolEntry}
+use Rattle.sgub_pool_list.specs.declared.listing.PoolListing.{PoolListing}
+use Rattle.sgub_pool_list.specs.Entries.{entriesStored}
+use Rattle.sgub_pool_list.specs.Listing.{listingOn}
+use Rattle.sgub_pool_list.proofs.Listed.{run-is, answer-is}
+use Rattle.sgub_pool_list.proofs.SgubPoolEntry as T
+use Rattle.sgub_pool_list.proofs.listing.PoolListing as S
+use Rattle.sgub_pool_list.proofs.listing.PoolListing.Laws as S′
+use Rattle.sgub_pool_list.proofs.listing.SgubPools as Y
+use Rattle.sgub_pool_list.proofs.listing.SgubPools.Laws as Y′
+use Rattle.sgub_pool_list.proofs.pool_listing as pl
+use Rattle.sgub_pool_list.proofs.pool_listing.Symbol as pl-def
+use Rattle.sgub_pool_list.proofs.pool_listing.Symbol.{name as #sgub-pool-list·pool-listing}
+use Rattle.sgub_pool_list.proofs.pool_listing.Met as pl-thm
+use Rattle.sgub_pool_list.proofs.store_pools as sp
+use Rattle.sgub_pool_list.proofs.store_pools.Symbol as sp-def
+use Rattle.sgub_pool_list.proofs.store_pools.Symbol.{name as #sgub-pool-list·store-pools}
+use Rattle.sgub_pool_list.proofs.store_pools.Met as sp-thm
 use Rattle.sgub.proofs.pools.sgub_pools.Key.{name as #sgub·sgub-pools}
 use Rattle.sgub.proofs.pools.sgub_pools as f
 use Rattle.sgub.proofs.pools.sgub_pools.Statement as stated
@@ -175,8 +175,8 @@ module _ {M : Type 1} (𝓤 : URA M) (H : Heap 𝓤) (A : Atoms 𝓤) (W : Given
       move ! (2 ∷ 0 ∷ []) $ fjoin ! $ move ! (1 ∷ 0 ∷ []) $ fjoin ! $
       nothing ! $ move ! (3 ∷ 0 ∷ []) $ join ! $ move ! (2 ∷ 0 ∷ []) $ join ! $ nothing ! $ move ! (1 ∷ 2 ∷ 0 ∷ []) $ join ! $ join ! $ done !
 
-  module _ (C : Calls 𝓤 H) (Λ : Loops 𝓤 H) (fm : FmC 𝓤 H (W .laws) C) (known-list : Triple 𝓤 (C #pool-list·pool-listing) (Lists 𝓤 H A mem run))
-      (known-store : Triple 𝓤 (C #pool-list·store-pools) (Stores 𝓤 H A mem run)) where
+  module _ (C : Calls 𝓤 H) (Λ : Loops 𝓤 H) (fm : FmC 𝓤 H (W .laws) C) (known-list : Triple 𝓤 (C #sgub-pool-list·pool-listing) (Lists 𝓤 H A mem run))
+      (known-store : Triple 𝓤 (C #sgub-pool-list·store-pools) (Stores 𝓤 H A mem run)) where
     module _ (l₀ l₁ l₂ l₃ l₄ l₅ l₆ : ℕ) where
       abbrev En : Env 𝓤 H
       En = (Y′.mir, l₀) ∷ (bytes, l₁) ∷ (slice, l₂) ∷ (S′.mir, l₃) ∷ (tyUnit, l₄) ∷ (eref, l₅) ∷ (eslice, l₆) ∷ []
@@ -256,8 +256,8 @@ module _ {M : Type 1} (𝓤 : URA M) (H : Heap 𝓤) (A : Atoms 𝓤) (W : Given
         lists l₀ l₁ l₂ l₃ l₄ l₅ l₆)))))))
 
 module _ {M : Type 1} (𝓤 : URA M) (H : Heap 𝓤) (A : Atoms 𝓤) (W : Given 𝓤 H A) (mem : Memory → SProp 𝓤) (run : Routine → Fun 𝓤) where
-  sgub-pools-walks : (C : Calls 𝓤 H) (Λ : Loops 𝓤 H) → FmC 𝓤 H (W .laws) C → Triple 𝓤 (C #pool-list·pool-listing) (Lists 𝓤 H A mem run)
-      → Triple 𝓤 (C #pool-list·store-pools) (Stores 𝓤 H A mem run) → Walks 𝓤 H A f.ended stayed (WpFn 𝓤 H C Λ code.function) (f.clauses 𝓤 H A mem run)
+  sgub-pools-walks : (C : Calls 𝓤 H) (Λ : Loops 𝓤 H) → FmC 𝓤 H (W .laws) C → Triple 𝓤 (C #sgub-pool-list·pool-listing) (Lists 𝓤 H A mem run)
+      → Triple 𝓤 (C #sgub-pool-list·store-pools) (Stores 𝓤 H A mem run) → Walks 𝓤 H A f.ended stayed (WpFn 𝓤 H C Λ code.function) (f.clauses 𝓤 H A mem run)
   sgub-pools-walks C Λ fm known-list known-store = walked 𝓤 H A f.ended stayed (f.clauses 𝓤 H A mem run) (WpFn 𝓤 H C Λ code.function) (λ κs. (slice-vals, (slice-vals, tt)))
       (λ κs. (shr-slice-tells (named 0) (κs .0) u8, (mut-slice-tells (named 1) (κs .1 .0) T.the-row, tt)))
       (λ κs qs bounds a _ are. via 𝓤 _ (fst∗ 𝓤 _ (emp 𝓤))
@@ -265,7 +265,7 @@ module _ {M : Type 1} (𝓤 : URA M) (H : Heap 𝓤) (A : Atoms 𝓤) (W : Given
       (are .0 .0 .1) (are .1 .0 .0 .1) C Λ fm known-list known-store))
 
 sgub-pools-meets : {M : Type 1} (𝓤 : URA M) (H : Heap 𝓤) (A : Atoms 𝓤) → Given 𝓤 H A → (mem : Memory → SProp 𝓤) (run : Routine → Fun 𝓤) (𝓣 : Tables 𝓤 H)
-    → Triple 𝓤 (𝓣 .C #pool-list·pool-listing) (Lists 𝓤 H A mem run) → Triple 𝓤 (𝓣 .C #pool-list·store-pools) (Stores 𝓤 H A mem run)
+    → Triple 𝓤 (𝓣 .C #sgub-pool-list·pool-listing) (Lists 𝓤 H A mem run) → Triple 𝓤 (𝓣 .C #sgub-pool-list·store-pools) (Stores 𝓤 H A mem run)
     → Meets 𝓤 H A f.signature (WpFn 𝓤 H (𝓣 .C) (𝓣 .Λ) code.function) (f.spec 𝓤 H A mem run)
 sgub-pools-meets 𝓤 H A W mem run 𝓣 known-list known-store =
     walk-meets 𝓤 H A f.ended stayed W (goes-none-slice 𝓤 H A W 2 (0 ∷ []) tt (plain (λ _. u8)) yes, (goes-gave-slice 𝓤 H A W 2 1 tt (plain (λ _. T.the-row)), tt))
@@ -277,5 +277,5 @@ unfolding code.routine tablesOf
 sgub-pools-spec 𝓤 H 𝓜 𝓖 𝓡 = entered 𝓤 H (tripleOf 𝓤 H (𝓖 .A) f.signature (f.spec 𝓤 H (𝓖 .A) (𝓜 .mem) (𝓡 .run)))
     (tables 𝓤 H 𝓜 𝓡 code.env .C) (tables 𝓤 H 𝓜 𝓡 code.env .Λ) #sgub·sgub-pools code.function (code.unfolded 𝓤 H 𝓜 𝓡)
     (sgub-pools-meets 𝓤 H (𝓖 .A) (givenOf 𝓤 H 𝓜 𝓖) (𝓜 .mem) (𝓡 .run) (tablesOf 𝓤 H 𝓜 (tables 𝓤 H 𝓜 𝓡 code.env))
-    (cited 𝓤 H (Lists 𝓤 H (𝓖 .A) (𝓜 .mem) (𝓡 .run)) 𝓜 𝓡 code.env #pool-list·pool-listing pl-def.routine code.calls-pool-list·pool-listing (pl-thm.met 𝓤 H 𝓜 𝓖 𝓡))
-    (cited 𝓤 H (Stores 𝓤 H (𝓖 .A) (𝓜 .mem) (𝓡 .run)) 𝓜 𝓡 code.env #pool-list·store-pools sp-def.routine code.calls-pool-list·store-pools (sp-thm.met 𝓤 H 𝓜 𝓖 𝓡)))
+    (cited 𝓤 H (Lists 𝓤 H (𝓖 .A) (𝓜 .mem) (𝓡 .run)) 𝓜 𝓡 code.env #sgub-pool-list·pool-listing pl-def.routine code.calls-sgub-pool-list·pool-listing (pl-thm.met 𝓤 H 𝓜 𝓖 𝓡))
+    (cited 𝓤 H (Stores 𝓤 H (𝓖 .A) (𝓜 .mem) (𝓡 .run)) 𝓜 𝓡 code.env #sgub-pool-list·store-pools sp-def.routine code.calls-sgub-pool-list·store-pools (sp-thm.met 𝓤 H 𝓜 𝓖 𝓡)))

@@ -1,0 +1,129 @@
+-- What is promised, on one page: each statement is a definition over those of this folder, and the contracts of the code cite the same
+-- definitions. Where each is proved stands beside it.
+use Prim.Native.Nat.{ℕ, _≤_, _<_}
+use mathlib.Core.Bool.{true}
+use mathlib.Core.List.{List}
+use mathlib.Core.Logic.{_↔_}
+use mathlib.Core.Path.{_≡_}
+use lib.ListN.{length, take}
+use Rattle.base_format.specs.declared.operation.WriteRecord.{WriteRecord}
+use Rattle.base_format.specs.declared.player.StreamPlayer.{StreamPlayer}
+use Rattle.base_format.specs.Bytes.{AllBytes}
+use Rattle.base_format.specs.Checked.{Checked, ok}
+use Rattle.base_format.specs.Compare.{compared, agreed, coreWrites, imageOf}
+use Rattle.base_format.specs.Limits.{Limits}
+use Rattle.base_format.specs.Listener.{Call, sameCalls, answers, reached, AllAdmissible, completed, begunNoFurther, vsyncRecords, underWay, callsFor, vsyncsFrom, newListener, heardAll}
+use Rattle.base_format.specs.Player.{Played, call, runAfter}
+use Rattle.base_format.specs.Repack.{repack, repacked}
+use Rattle.base_format.specs.Size.{pcmSize}
+use Rattle.base_format.specs.State.{started, waveSource}
+use Rattle.base_format.specs.Stream.{Stream, read}
+use Rattle.base_format.specs.WaveSources.{waveSourceAt}
+use Rattle.base_format.specs.Writes.{openingWrites, frameWrites, vsync}
+use Rattle.base_format.specs.Written.{written}
+
+-- ONE READING (round_trip/proofs/Reading)
+
+-- a file is accepted exactly as the stream within the limits that is written as its bytes, and there is at most one
+abbrev pub OneReading : Type 0
+OneReading =
+    (file : List ℕ) → AllBytes file
+    → ((s : Stream) → (read file ≡ ok s) ↔ (Limits s × (written s ≡ file)))
+    × ((s s′ : Stream) → Limits s × (written s ≡ file) → Limits s′ × (written s′ ≡ file) → s ≡ s′)
+
+-- THE COMPARISON
+
+-- the rule: "repeat and frame count agree", and so do the "opening writes to cores, as one sequence over both", the images, and "each
+-- frame's whole write list"
+pub record Agree (s s′ : Stream) : Type 0 where
+  pub repeat : s .repeat ≡ s′ .repeat
+  pub count : length (s .frames) ≡ length (s′ .frames)
+  pub cores : coreWrites (openingWrites s) ≡ coreWrites (openingWrites s′)
+  pub image : imageOf s ≡ imageOf s′
+  pub frame : (k : ℕ) → frameWrites s k ≡ frameWrites s′ k
+
+-- no refusal applies, and the rule holds
+pub record Passes (master other : List ℕ) (image image′ : ℕ) : Type 0 where
+  pub s : Stream
+  pub s′ : Stream
+  pub accepted : read master ≡ ok s
+  pub accepted′ : read other ≡ ok s′
+  pub version : s .version ≡ 1
+  pub version′ : s′ .version ≡ 2
+  pub agree : Agree s s′
+  pub room : pcmSize ≤ image
+  pub room′ : pcmSize ≤ image′
+
+-- the comparison passes exactly then (format/proofs/Compared)
+abbrev pub PassesExactly : Type 0
+PassesExactly =
+    (master other : List ℕ) (image image′ : ℕ) → (compared master other image image′ ≡ agreed true) ↔ Passes master other image image′
+
+-- what repacking makes of a master is accepted as the repacked stream, and passes with its master (round_trip/proofs/Repacked)
+abbrev pub RepackedPasses : Type 0
+RepackedPasses =
+    (master result : List ℕ) (image image′ : ℕ) → AllBytes master → repack master ≡ ok result
+    → ((s : Stream) → read master ≡ ok s → read result ≡ ok (repacked s))
+    × (pcmSize ≤ image → pcmSize ≤ image′ → compared master result image image′ ≡ agreed true)
+
+-- PLAYING (agreement/proofs; `Reports`: format/proofs/Lent)
+
+-- what a call reports, so many records from the front of the run as it leaves it, is what it answers
+abbrev pub Reports : Type 0
+Reports =
+    (state : StreamPlayer) (file : List ℕ) (run : List WriteRecord) (answer : Played) → call state file (length run) ≡ ok answer
+    → take (length (answer .records)) (runAfter run (call state file (length run))) ≡ answer .records
+
+-- of an accepted file, after any list of calls from its start: with the file itself the next call is not 25
+abbrev pub OwnFilePlays : Type 0
+OwnFilePlays =
+    (file : List ℕ) (s : Stream) → read file ≡ ok s → (calls : List Call) → AllAdmissible file (started file) calls
+    → (room : ℕ) → (answer : Played) × (call (reached (started file) calls) file room ≡ ok answer)
+
+-- "each vsync's records, over its calls, are its writes"
+abbrev pub EachVsync : Type 0
+EachVsync =
+    (file : List ℕ) (s : Stream) → read file ≡ ok s → (calls : List Call) → AllAdmissible file (started file) calls
+    → vsyncRecords (answers (started file) calls) ≡ vsyncsFrom s 0 (completed (answers (started file) calls))
+
+-- with a run of some records the writes of a vsync take "W/n calls rounded up, at least one": so many complete it, and fewer do not
+abbrev pub CallsOfVsync : Type 0
+CallsOfVsync =
+    (file : List ℕ) (s : Stream) → read file ≡ ok s → (calls : List Call) → AllAdmissible file (started file) calls
+    → begunNoFurther (answers (started file) calls) ≡ true → (room : ℕ) → 0 < room
+    → let needed = callsFor (length (vsync s (completed (answers (started file) calls)))) room in
+    (completed (answers (reached (started file) calls) (sameCalls file room needed)) ≡ 1)
+    × ((count : ℕ) → count < needed → completed (answers (reached (started file) calls) (sameCalls file room count)) ≡ 0)
+
+-- `wave_source` at every moment, also within a vsync
+abbrev pub WaveSourceIs : Type 0
+WaveSourceIs =
+    (file : List ℕ) (s : Stream) → read file ≡ ok s → (calls : List Call) → AllAdmissible file (started file) calls → (core channel : ℕ)
+    → waveSource (reached (started file) calls) core channel
+    ≡ waveSourceAt s (completed (answers (started file) calls)) (length (underWay (answers (started file) calls))) core channel
+
+-- DEMAND 3 (agreement/proofs/Agreement): files that the comparison passes sound the same
+
+-- what holds of the answers that two players told their listeners, which `Reports` says are the records reported: "both listeners hold the
+-- same", and "each vsync's records, over its calls, are its writes"
+pub record Together (master other : List ℕ) (told told′ : List (Checked Played)) : Type 0 where
+  pub s : Stream
+  pub s′ : Stream
+  pub accepted : read master ≡ ok s
+  pub accepted′ : read other ≡ ok s′
+  pub held : heardAll newListener told ≡ heardAll newListener told′
+  pub writes : vsyncRecords told ≡ vsyncsFrom s 0 (completed told)
+  pub writes′ : vsyncRecords told′ ≡ vsyncsFrom s′ 0 (completed told′)
+
+-- one claim about both lists of calls: where both players have begun no further vsync and both completed equally many
+abbrev pub Demand3 : Type 0
+Demand3 =
+    (master other : List ℕ) (image image′ : ℕ)
+    → compared master other image image′ ≡ agreed true
+    → (calls calls′ : List Call)
+    → AllAdmissible master (started master) calls
+    → AllAdmissible other (started other) calls′
+    → begunNoFurther (answers (started master) calls) ≡ true
+    → begunNoFurther (answers (started other) calls′) ≡ true
+    → completed (answers (started master) calls) ≡ completed (answers (started other) calls′)
+    → Together master other (answers (started master) calls) (answers (started other) calls′)

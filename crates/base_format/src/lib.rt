@@ -1,0 +1,37 @@
+// The values of the format sheet that the crates share. What they mean is in specs/.
+mod card;
+mod header;
+mod operation;
+mod player;
+mod pool;
+mod rule;
+mod size;
+
+pub use base_targets::Target;
+pub use card::CardRequirement;
+pub use card::CardTable;
+pub use header::Header;
+pub use operation::Operation;
+pub use operation::WriteRecord;
+pub use player::NextPart;
+pub use player::Part;
+pub use player::Position;
+pub use player::Progress;
+pub use player::StreamPlayer;
+pub use player::WaveSource;
+pub use pool::Pool;
+pub use rule::Refusal;
+pub use rule::Rule;
+pub use rule::Verdict;
+pub use size::CARD_SIZE;
+pub use size::CARDS_HEADER_SIZE;
+pub use size::COUNT_SIZE;
+pub use size::ENTRY_SIZE;
+pub use size::FILE_LIMIT;
+pub use size::MASTER_HEADER_SIZE;
+pub use size::OPERATION_MOST;
+pub use size::PCM_SIZE;
+pub use size::POOLED_HEADER_SIZE;
+pub use size::RECORD_SIZE;
+pub use size::WAVE_RECORDS_SIZE;
+pub use size::WAVE_SIZE;

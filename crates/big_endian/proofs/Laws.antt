@@ -1,2 +1,0 @@
--- Laws of numbers that are written into bytes, passed on.
-pub use Rattle.stores.proofs.Laws.{put-fits, put-passes, number-passes, put-next, be-put, put-before, put-behind, length-put, put-first}

@@ -1,2 +1,0 @@
--- Bytes written into lent memory, passed on.
-unfoldable pub use Rattle.stores.specs.Put.{put}

@@ -1,0 +1,8 @@
+-- `bytes_operation::number::length_place` meets its contract: its test decides the definition's.
+use borrow.Author.Needs.{needs}
+use Rattle.base_format.proofs.Decided.{decided}
+use Rattle.bytes_operation.proofs.number.length_place.Statement.{statement}
+use Rattle.bytes_operation.proofs.number.length_place.Tie as tie
+
+pub length-place-spec : {M : Type 1} → statement M
+length-place-spec = tie.close (tie.spec (search needs) (λ c. search decided) (search needs) (λ c. search decided))

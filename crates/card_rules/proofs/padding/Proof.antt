@@ -1,7 +1,0 @@
--- `card_rules::padding` meets its contract: its test decides that of `paddingAt`.
-use borrow.Author.Tests.{lt-ltb, le-ltb}
-use Rattle.card_rules.proofs.padding.Statement.{statement}
-use Rattle.card_rules.proofs.padding.Tie as tie
-
-pub padding-spec : {M : Type 1} → statement M
-padding-spec = tie.close (tie.spec (λ c. rw (lt-ltb _ _ (c .if1 .taken))) (λ c. rw (le-ltb _ _ (c .if1 .left))))

@@ -1,0 +1,4 @@
+pub mod Answer
+pub mod Frames
+pub mod Skipped
+pub mod Walk

@@ -1,0 +1,8 @@
+// The opening and the frames of a file: the rules 13 to 20.
+mod body;
+mod empty_frames;
+mod frames;
+mod opening;
+
+pub use body::PartsRead;
+pub use body::check_parts;

@@ -1,0 +1,4 @@
+pub mod Items
+pub mod Passed
+pub mod Ran
+pub mod Runs

@@ -1,0 +1,3 @@
+-- What the contracts of `quick_operations` cite.
+pub mod Passes
+pub mod Run

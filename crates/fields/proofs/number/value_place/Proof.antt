@@ -1,8 +1,0 @@
--- `fields::number::value_place` meets its contract: its test decides the definition's.
-use borrow.Author.Needs.{needs}
-use Rattle.format.proofs.Decided.{decided}
-use Rattle.fields.proofs.number.value_place.Statement.{statement}
-use Rattle.fields.proofs.number.value_place.Tie as tie
-
-pub value-place-spec : {M : Type 1} → statement M
-value-place-spec = tie.close (tie.spec (search needs) (λ c. search decided) (search needs) (λ c. search decided))

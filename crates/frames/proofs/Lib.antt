@@ -1,2 +1,0 @@
-pub mod FrameWalk
-pub mod Empty

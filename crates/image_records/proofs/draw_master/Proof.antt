@@ -1,9 +1,0 @@
--- `image_records::draw_master` meets its contract: the records are played in a memory that was begun.
-use borrow.Author.Needs.{needs}
-use Rattle.image_records.proofs.draw_master.Statement.{statement}
-use Rattle.image_records.proofs.draw_master.Tie as tie
-
-pub draw-master-spec : {M : Type 1} → statement M
-draw-master-spec =
-    tie.close
-    (tie.spec (search needs) (search needs) (search needs) (λ c. rw (c .before .before .play-records .ensures, c .before .before .before .before .before .before .begin .ensures)))

@@ -1,5 +1,0 @@
-// The player of a stream file that is started: one vsync call after the other.
-mod vsync;
-
-pub use planned_vsync::Vsync;
-pub use vsync::advance_vsync;

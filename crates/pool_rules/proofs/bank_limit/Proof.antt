@@ -1,9 +1,0 @@
--- `pool_rules::bank_limit` meets its contract: its tests decide the definition's.
-use Rattle.format.specs.Pool.{bankLimit}
-use Rattle.format.proofs.Decided.{decided}
-use Rattle.pool_rules.proofs.bank_limit.Statement.{statement}
-use Rattle.pool_rules.proofs.bank_limit.Tie as tie
-
-pub bank-limit-spec : {M : Type 1} → statement M
-unfolding bankLimit
-bank-limit-spec = tie.close (tie.spec (λ c. search decided) (λ c. search decided) (λ c. search decided))

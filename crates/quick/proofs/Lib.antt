@@ -1,4 +1,0 @@
-pub mod Runs
-pub mod Passed
-pub mod Items
-pub mod Ran

@@ -1,2 +1,0 @@
--- What the contracts of `quick_operations` cite.
-pub mod Passes

@@ -1,0 +1,75 @@
+// The player for C and Rust: its start, and one vsync call over a lent state, file and run.
+use base_format::StreamPlayer;
+use base_format::Verdict;
+use base_format::WaveSource;
+use base_format::WriteRecord;
+use play::Vsync;
+use play_wave_source::CopiedPool;
+use play_wave_source::wave_source;
+ghost use mathlib.Core.Path.{_≡_};
+ghost use Rattle.base_format.specs.State.{started, waveSource};
+ghost use Rattle.base_format.specs.Stream.{read};
+ghost use Rattle.play_start.specs.Start.{verdictOn};
+ghost use Rattle.play_planned.specs.Vsync.{Advanced};
+ghost use Rattle.sgub.specs.Player.{startFields, sourceFields};
+
+// The verdict on a file, and the player's state; that of a refused file is finished.
+#[repr(C)]
+pub struct SgubStarted {
+    pub number: u32,
+    pub place: u64,
+    pub player: StreamPlayer,
+}
+
+#[no_mangle]
+pub extern "C" fn sgub_start(file: &[u8]) -> SgubStarted
+    ensures { λ r. ⌜ r ≡ startFields (verdictOn (read (now (file .entry)))) (started (now (file .entry))) ⌝ }
+{
+    let found = play_start::start(file);
+    let player = found.state;
+    let verdict = found.verdict;
+    match verdict {
+        Verdict::Allowed => SgubStarted {
+            number: 0,
+            place: 0,
+            player: player,
+        },
+        Verdict::Refused(refusal) => {
+            let rule = refusal.rule;
+            SgubStarted {
+                number: base_refusal::number(rule),
+                place: refusal.place as u64,
+                player: player,
+            }
+        }
+    }
+}
+
+// `advance_vsync` itself, under its exported name. A refused call changes nothing.
+#[no_mangle]
+pub extern "C" fn sgub_advance_vsync(
+    player: &mut StreamPlayer,
+    file: &[u8],
+    run: &mut [WriteRecord],
+) -> Vsync
+    ensures { λ r. ⌜ Advanced (now (player .entry)) (now (file .entry)) (now (run .entry)) r (now (player .exit)) (now (run .exit)) ⌝ }
+{
+    play::advance_vsync(player, file, run)
+}
+
+// The pool last copied to a channel of a core, as the state holds it; not copied, and 0, where none was and outside of 2 × 8.
+#[no_mangle]
+pub extern "C" fn sgub_wave_source(player: StreamPlayer, core: usize, channel: usize) -> WaveSource
+    ensures { λ r. ⌜ r ≡ sourceFields (waveSource player core channel) ⌝ }
+{
+    match wave_source(player, core, channel) {
+        CopiedPool::None => WaveSource {
+            copied: false,
+            pool: 0,
+        },
+        CopiedPool::Pool(id) => WaveSource {
+            copied: true,
+            pool: id,
+        },
+    }
+}
