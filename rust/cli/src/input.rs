@@ -94,8 +94,9 @@ fn standard_input() -> io::Result<File> {
 
 /// Whether the command was started with standard input closed, which is not an empty file.
 ///
-/// Before `main`, Rust opens /dev/null for reading and writing in its place. A shell opens it for reading only, so an empty
-/// standard input from /dev/null is told from that. Without /proc the two cannot be told apart, and a closed one is read as empty.
+/// Before `main`, Rust opens /dev/null for reading and writing in its place. A shell's `</dev/null` opens it for reading only, and
+/// is an empty file. A /dev/null that another program opened for both is taken for closed too: nothing tells the two apart.
+/// Without /proc a closed standard input cannot be told at all, and is read as empty.
 fn is_closed(standard_input: &File) -> bool {
     is_null(standard_input).unwrap_or(false)
         && fs::read_to_string("/proc/self/fdinfo/0").is_ok_and(|info| is_read_and_written(&info))

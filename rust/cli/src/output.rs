@@ -20,7 +20,7 @@ pub struct Destination<'a> {
     name: &'a OsStr,
     /// The file itself: a link stays a link, and its file gets the bytes.
     path: PathBuf,
-    /// The permissions of the file that is replaced; `None` where there is none.
+    /// The permissions of the file that is replaced; `None` where there is none, and then none that comes meanwhile is replaced.
     replaced: Option<Permissions>,
 }
 
