@@ -1,12 +1,15 @@
 /* Plays a stream file through a run of 64 records and prints what `./sgub play --run 64 FILE` prints: one pass and the closing
- * writes. From the root of the repository, once `rt staticlib sgub` has made the library:
+ * writes. The exit status is 0, 1 for a refused file, and 2 if the file cannot be read. From the root of the repository, once
+ * `rt staticlib sgub` has made the library:
  *
  *     cc -Iinclude examples/play.c target/staticlib/libsgub.a -o play */
 #include "sgub.h"
 
+#include <errno.h>
 #include <inttypes.h>
 #include <stdio.h>
 #include <stdlib.h>
+#include <string.h>
 
 /* A byte more than the longest stream: a longer file is refused by its length. */
 enum { LONGEST = 0xE00001, RUN = 64 };
@@ -33,21 +36,41 @@ static int play(struct sgub_player *player, const uint8_t *file, size_t length) 
     return 0;
 }
 
+/* Reads a file into LONGEST bytes, and says so where it cannot: a part of a file, or nothing, must not be taken for the file. */
+static bool read_file(const char *name, uint8_t *file, size_t *length) {
+    FILE *source = fopen(name, "rb");
+    if (source == NULL) {
+        fprintf(stderr, "play: %s: could not be opened: %s\n", name, strerror(errno));
+        return false;
+    }
+    *length = fread(file, 1, LONGEST, source);
+    const bool whole = !ferror(source);
+    if (!whole)
+        fprintf(stderr, "play: %s: could not be read: %s\n", name, strerror(errno));
+    fclose(source);
+    return whole;
+}
+
+static int play_file(const uint8_t *file, size_t length) {
+    struct sgub_started started = sgub_start(file, length);
+    if (started.number == 0)
+        return play(&started.player, file, length);
+    printf("refused %" PRIu32 " %" PRIu64 "\n", started.number, started.place);
+    return 1;
+}
+
 int main(int argc, char **argv) {
-    FILE *source = argc == 2 ? fopen(argv[1], "rb") : NULL;
-    uint8_t *file = malloc(LONGEST);
-    if (source == NULL || file == NULL) {
+    if (argc != 2) {
         fprintf(stderr, "usage: play FILE\n");
         return 2;
     }
-    const size_t length = fread(file, 1, LONGEST, source);
-    struct sgub_started started = sgub_start(file, length);
-    int status = 1;
-    if (started.number == 0)
-        status = play(&started.player, file, length);
-    else
-        printf("refused %" PRIu32 " %" PRIu64 "\n", started.number, started.place);
+    uint8_t *file = malloc(LONGEST);
+    if (file == NULL) {
+        fprintf(stderr, "play: no memory for a file\n");
+        return 2;
+    }
+    size_t length;
+    const int status = read_file(argv[1], file, &length) ? play_file(file, length) : 2;
     free(file);
-    fclose(source);
     return status;
 }

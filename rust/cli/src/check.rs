@@ -12,6 +12,7 @@ pub fn run(arguments: &[OsString], out: &mut impl Write) -> Result<Status, Failu
     if files.is_empty() {
         return Err(Failure::usage("check needs a file"));
     }
+    input::standard_input_once(&files)?;
     let mut worst = Status::Accepted;
     for name in &files {
         let status = match input::read(name) {

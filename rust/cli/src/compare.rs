@@ -13,9 +13,7 @@ pub fn run(arguments: &[OsString], out: &mut impl Write) -> Result<Status, Failu
     let [master, other] = files[..] else {
         return Err(Failure::usage("compare takes a master and another file"));
     };
-    if master == "-" && other == "-" {
-        return Err(Failure::usage("standard input is one file, not two"));
-    }
+    input::standard_input_once(&files)?;
     let (master, other) = (input::read(master)?, input::read(other)?);
     let mut images = [(); 2].map(|()| vec![0; IMAGE_SIZE]);
     let [master_image, other_image] = &mut images;

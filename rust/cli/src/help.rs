@@ -12,6 +12,9 @@ sgub checks, plays, repacks and compares SGUB music streams.
   sgub explain [--all] FILE  print the line and what is behind it: for a refused file
                              the rule that it breaks and the bytes at the place, for an
                              accepted one its header, cards and pools (--all: every pool)
+  sgub explain NUMBER        print the rule of a refusal, 1 to 25, with its limits, what its
+                             place is and which commands print it; a file whose name is
+                             a number is given as ./16
   sgub play [OPTION]... FILE print the writes of one pass and of the end: for each call
                                vsync NUMBER WRITES complete (or more)
                              then its writes, each as TARGET ADDRESS VALUE
@@ -21,7 +24,8 @@ sgub checks, plays, repacks and compares SGUB music streams.
   sgub repack MASTER RESULT  repack a file of version 1 as one of version 2 and print
                                repacked BYTES
                                refused NUMBER PLACE
-                             RESULT is replaced only when the new one is whole
+       --force               replace RESULT if it is there, once the new one is whole;
+                             MASTER itself and a read-only file are never replaced
   sgub compare MASTER OTHER  compare a file of version 1 with one of version 2 and print
                                passed
                                failed, and a line that says where they first differ

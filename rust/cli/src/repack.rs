@@ -1,23 +1,21 @@
 //! `sgub repack MASTER RESULT`: a master as a file of version 2.
 
 use crate::input;
-use crate::output;
+use crate::output::{Destination, FORCE};
 use crate::status::{Failure, Status};
 use std::ffi::OsString;
 use std::io::Write;
 
-/// Repacks a master. It is read whole before the result is written, so the two may be one file.
+/// Repacks a master. Whether the result may be written is tested before the master is read.
 pub fn run(arguments: &[OsString], out: &mut impl Write) -> Result<Status, Failure> {
-    let (_, files) = input::files(arguments, &[])?;
+    let (options, files) = input::files(arguments, &[FORCE])?;
     let [master, result] = files[..] else {
         return Err(Failure::usage("repack takes a master and a result"));
     };
-    if result == "-" {
-        return Err(Failure::usage("the result of repack needs a name"));
-    }
+    let destination = Destination::new(result, &[master], options.contains(&FORCE))?;
     match sgub::repack_to_vec(&input::read(master)?) {
         Ok(bytes) => {
-            output::replace(result, &bytes)?;
+            destination.write(&bytes)?;
             writeln!(out, "repacked {}", bytes.len())?;
             Ok(Status::Accepted)
         }

@@ -7,7 +7,7 @@ use std::process::ExitCode;
 /// What a run says by its exit status. Of several files the worst counts, so the order matters.
 #[derive(Clone, Copy, Debug, PartialEq, Eq, PartialOrd, Ord)]
 pub enum Status {
-    /// Every file is accepted, the result is written, or the comparison passed.
+    /// Every file is accepted, the result is written, the comparison passed, or what was asked for is printed.
     Accepted = 0,
     /// A file is refused, or the comparison failed.
     Refused = 1,

@@ -1,6 +1,6 @@
 //! Why a file is refused: the rule in words, what stands at the place, and the bytes around it.
 
-use super::{dump, fields, rules, text};
+use super::{dump, fields, rules};
 use sgub::Refusal;
 
 /// Bytes that show a header.
@@ -18,16 +18,10 @@ pub fn explain(file: &[u8], refusal: Refusal) -> String {
 }
 
 fn rule(number: u32) -> String {
-    let Some(rule) = rules::rule(number) else {
-        return format!("Refusal {number} is not known to this command.\n");
-    };
-    let head = format!("Refusal {number}: ");
-    let mut text = text::wrapped(&format!("{head}{}", rule.words), head.len());
-    for detail in rule.details {
-        text.push('\n');
-        text += &text::wrapped(detail, 0);
+    match rules::rule(number) {
+        Some(rule) => rule.text(number),
+        None => format!("Refusal {number} is not known to this command.\n"),
     }
-    text
 }
 
 fn at_place(file: &[u8], Refusal { number, place }: Refusal) -> String {

@@ -1,12 +1,22 @@
-//! The format sheet's words for the refusals 1 to 20.
+//! The refusals 1 to 25 in words for whoever has to mend a file. The format sheet decides; docs/RULES.md has the same words.
 
-/// The words of a refusal.
+use super::details;
+use super::text::wrapped;
+
+/// A rule whose breach is refused under its number.
 pub struct Rule {
-    /// What the sheet's list says.
-    pub words: &'static str,
-    /// What else the sheet says of the rules that the list only names.
-    pub details: &'static [&'static str],
+    /// What is refused.
+    words: &'static str,
+    /// What the place of the refusal is.
+    place: &'static str,
+    /// Which commands can print the number.
+    printed_by: &'static str,
+    /// Limits and layouts that the words only name.
+    details: &'static [&'static str],
 }
+
+/// The greatest number.
+pub const LAST: usize = RULES.len();
 
 /// The rule of a number; `None` for a number that the library does not give.
 pub fn rule(number: u32) -> Option<&'static Rule> {
@@ -14,117 +24,262 @@ pub fn rule(number: u32) -> Option<&'static Rule> {
     RULES.get(usize::try_from(index).ok()?)
 }
 
-const fn plain(words: &'static str) -> Rule {
-    Rule {
-        words,
-        details: &[],
+impl Rule {
+    /// The rule under its number, as text for a refused file.
+    pub fn text(&self, number: u32) -> String {
+        let head = format!("Refusal {number}: ");
+        let mut text = wrapped(&format!("{head}{}", self.words), head.len());
+        for detail in self.details {
+            text.push('\n');
+            text += detail;
+        }
+        text
+    }
+
+    /// The same with all that can be said without a file.
+    pub fn whole_text(&self, number: u32) -> String {
+        let mut text = self.text(number);
+        text.push('\n');
+        for (head, words) in [("Place: ", self.place), ("Printed by: ", self.printed_by)] {
+            text += &wrapped(&format!("{head}{words}."), head.len());
+        }
+        text
     }
 }
 
-const fn detailed(words: &'static str, details: &'static [&'static str]) -> Rule {
-    Rule { words, details }
+/// The place of the refusals that have none.
+const NONE: &str = "0";
+const ITEM: &str = "the first byte of the record or operation";
+const OPERATION: &str = "the first byte of the operation";
+
+/// A rule of the check, which every command makes.
+const fn check(words: &'static str, place: &'static str, details: &'static [&'static str]) -> Rule {
+    Rule {
+        words,
+        place,
+        printed_by: "check, explain, play, repack, compare",
+        details,
+    }
 }
 
-const CARD: &str = "Card: slot 0 to 7, rising from card to card; name length 1 to 16; two 0 bytes; u32 name offset, \
-    bulk start, bulk length; name padded with 0 to byte 31. Offset plus name length, and bulk start plus length, are at \
-    most 0x2000000.";
-const POOL: &str = "Pool entry, 16 bytes: u16 id equal to its index, kind, codec 0, u32 size, the same size again, u32 \
-    offset where the directory or the previous payload ended. Size is at least 1. Kind 1, wave: 256. Kind 2, PCM: at \
-    most 1,048,576. Kind 3: version 3 up to 0x400000, version 4 up to 0x2000000.";
-const RECORD: &str = "A record is target, 3 address bytes, value.";
-const OPERATION: &str = "Operations: 0 WRITE target, address, value; 1 FILL target, address, u32 length, value; 2 COPY \
-    target, address, u16 pool, u32 source, u32 length. Addresses have 3 bytes in version 2, else 4.";
-const TARGETS: &str = "Each target owns its named limits: 0 and 1, the cores, 0x8FF; 2, PCM, 0xFFFFF; 3 in version 3, \
-    and 3 to 10 in version 4 (slot = target - 3), 0x1FFFFFF; 11 in version 4, 0x3F.";
-const BULK: &str = "FILL and COPY need length 1 or more and a last address within 0x7FF for cores, 0xFFFFF for PCM, \
-    0x3FFFFF for version 3's target 3, the card's bulk range in version 4 (none if its length is 0), never target 11.";
-const COPY: &str = "COPY: source plus length within the pool; kind 1 only to cores with address, source and length \
-    multiples of 256; kind 2 only to PCM; kind 3 only to target 3 (version 3) or 3 to 10 (version 4).";
+/// A rule beside the check; none of them has a place.
+const fn beside(
+    words: &'static str,
+    printed_by: &'static str,
+    details: &'static [&'static str],
+) -> Rule {
+    Rule {
+        words,
+        place: NONE,
+        printed_by,
+        details,
+    }
+}
 
-const RULES: [Rule; 20] = [
-    plain(
-        "The file is shorter than its header: 48 bytes where byte 4 exists and is 4, 40 where it is 2 or 3, else 20.",
+const RULES: [Rule; 25] = [
+    // 1
+    check(
+        "The file is too short for its header, which has 48 bytes if there is a byte 4 and it is 4, 40 bytes if it \
+         is 2 or 3, and 20 bytes in every other case.",
+        NONE,
+        &[],
     ),
-    plain("Bytes 0 to 3 are not the letters SGUB."),
-    plain("Byte 4, the version, is not 1 to 4."),
-    plain("Byte 5, the voice count, is not 16."),
-    plain(
-        "Byte 6 (1 means repeat) exceeds 1, byte 7 is not 0, or a pooled header's size field, reserved bytes or card \
-         count (at most 8) is wrong.",
+    // 2
+    check(
+        "The first four bytes, 0 to 3, do not spell SGUB.",
+        NONE,
+        &[],
     ),
-    plain("Version 4's frame period is neither 0 nor 48,000 to 48,000,000."),
-    detailed("A card entry is cut off or breaks a card rule.", &[CARD]),
-    plain(
-        "The frame count is 0, total size exceeds 0xE00000 or is not the file's length, the pool count exceeds 65,536, \
-         or the directory offset is wrong.",
+    // 3
+    check("The version in byte 4 is none of 1, 2, 3 and 4.", NONE, &[]),
+    // 4
+    check(
+        "The voice count in byte 5 is another number than 16.",
+        NONE,
+        &[],
     ),
-    plain("The pool directory passes the file's end."),
-    detailed("A pool entry breaks a pool rule.", &[POOL]),
-    plain("A pool payload passes the file's end."),
-    plain(
-        "Version 1's opening records pass the file's end; or a pooled opening does not start where the payloads end, \
-         or the frames start before the opening or after the file's end.",
+    // 5
+    check(
+        "Byte 6 is above 1 (1 means repeat), byte 7 is not 0, or in versions 2 to 4 the header size, a reserved byte \
+         or the card count (8 at most) is wrong.",
+        NONE,
+        &[details::RESERVED],
     ),
-    detailed(
-        "An operation's first byte, if it lies before the limit that 14 names, exceeds 2.",
-        &[OPERATION],
+    // 6
+    check(
+        "The frame period of version 4, bytes 40 to 43, is not 0 and lies outside of 48,000 to 48,000,000.",
+        NONE,
+        &[],
     ),
-    detailed(
-        "A record, operation or frame count lacks bytes before its limit, which is the frames' start for a pooled \
-         opening and else the file's end.",
-        &[RECORD, OPERATION],
+    // 7
+    check(
+        "A card is cut off by the file's end, or breaks a rule for cards.",
+        "the first byte of the card",
+        &[details::CARD],
     ),
-    detailed(
-        "The target does not exist, or its slot has no card.",
-        &[TARGETS],
+    // 8
+    check(
+        "The frame count is 0, the total size is above 0xE00000 or differs from the file's length, or in versions 2 \
+         to 4 the pool count is above 65,536 or the directory does not start right behind header and cards.",
+        NONE,
+        &[details::COUNTS],
     ),
-    detailed(
-        "The address of a record or WRITE passes the target's limit.",
-        &[TARGETS],
+    // 9
+    check(
+        "The pool directory, 16 bytes for each pool, goes beyond the file's end.",
+        NONE,
+        &[],
     ),
-    detailed(
-        "A FILL, or in version 4 a COPY, has length 0 or a forbidden destination.",
-        &[BULK],
+    // 10
+    check(
+        "A pool entry breaks a rule for pools.",
+        "the first byte of the pool entry",
+        &[details::POOL],
     ),
-    plain("A COPY names no pool of the file."),
-    detailed("A COPY breaks a remaining rule.", &[BULK, COPY]),
-    plain(
-        "A pooled opening's operations, of which there may be none, do not end where the frames start (tested before \
-         any frame), or the last frame does not end at the file's end.",
+    // 11
+    check(
+        "The payload of a pool goes beyond the file's end.",
+        "the first byte of the pool entry",
+        &[details::PAYLOAD],
+    ),
+    // 12
+    check(
+        "In version 1 the opening records go beyond the file's end. In versions 2 to 4 the opening does not start \
+         where the payloads end, or the frames start before the opening does or beyond the file's end.",
+        NONE,
+        &[details::SECTIONS],
+    ),
+    // 13
+    check(
+        "The first byte of an operation is above 2, and lies before the limit that 14 names (if not, 14 is given).",
+        OPERATION,
+        &[details::OPERATION, details::ITEMS],
+    ),
+    // 14
+    check(
+        "A record, an operation or a frame count has too few bytes before its limit. In the opening of versions 2 to \
+         4 the limit is where the frames start, everywhere else it is the file's end.",
+        "the first byte of the record, operation or frame count",
+        &[details::RECORD, details::OPERATION, details::ITEMS],
+    ),
+    // 15
+    check(
+        "The file's version has no such target, or the target's slot has no card.",
+        ITEM,
+        &[details::TARGETS, details::ITEMS],
+    ),
+    // 16
+    check(
+        "The address of a record or a WRITE is above the limit of its target.",
+        ITEM,
+        &[details::TARGETS, details::ITEMS],
+    ),
+    // 17
+    check(
+        "A FILL has length 0, or a destination that is not allowed; in version 4 this goes for a COPY too.",
+        OPERATION,
+        &[details::BULK, details::ITEMS],
+    ),
+    // 18
+    check(
+        "A COPY takes from a pool that the file does not have.",
+        OPERATION,
+        &[details::POOL_NUMBERS, details::ITEMS],
+    ),
+    // 19
+    check(
+        "A COPY breaks another rule: it reads beyond its pool, the pool's kind does not go to this target, the \
+         address, source or length of a wave's COPY is not a multiple of 256, or in versions 2 and 3 the length is 0 or \
+         the destination is not allowed.",
+        OPERATION,
+        &[details::COPY, details::BULK, details::ITEMS],
+    ),
+    // 20
+    check(
+        "In versions 2 to 4 the opening's operations, even if there are none, do not end where the frames start, \
+         which is tested before any frame; or in any version the last frame does not end at the file's end.",
+        "the byte where reading stopped",
+        &[],
+    ),
+    // 21
+    beside(
+        "The file is accepted, but its version is not one that this command takes.",
+        "repack, compare",
+        &[details::VERSIONS],
+    ),
+    // 22
+    beside(
+        "Repacking only: the opening's writes to PCM memory do not go to the addresses 0, 1, 2 and so on, one after \
+         the other.",
+        "repack",
+        &[],
+    ),
+    // 23
+    beside(
+        "The result would have more than 0xE00000 bytes (14,680,064).",
+        "repack",
+        &[],
+    ),
+    // 24
+    beside(
+        "The memory that a caller lends for the result or for a memory image is too short.",
+        "no command, since each lends enough; a program that calls the library can get it",
+        &[details::LENT],
+    ),
+    // 25
+    beside(
+        "A player and the file that is lent to its vsync call do not belong together.",
+        "no command, since each plays a file by its own player; a program that calls the library can get it",
+        &[details::BELONGING, details::READING],
     ),
 ];
 
 #[cfg(test)]
 mod tests {
     use super::*;
+    use crate::explain::text::WIDTH;
     use std::fs;
     use std::path::Path;
 
-    /// The words are the sheet's, where the sheet is at hand. It is not part of the repository.
     #[test]
-    fn the_words_are_those_of_the_sheet() {
-        let beside = Path::new(env!("CARGO_MANIFEST_DIR")).join("../../../shared/docs/01-scope.md");
-        let sheets = [beside.as_path(), Path::new("/work/shared/docs/01-scope.md")];
-        let Some(sheet) = sheets
-            .iter()
-            .find_map(|sheet| fs::read_to_string(sheet).ok())
-        else {
-            eprintln!("skipped: the format sheet is not at hand");
-            return;
-        };
-        let sheet = sheet.replace('\u{2212}', "-");
+    fn there_are_25() {
+        assert!(rule(0).is_none() && rule(26).is_none());
+        assert!(rule(4).unwrap().words.contains("voice count"));
+        assert_eq!(LAST, 25);
+    }
+
+    #[test]
+    fn lines_stay_within_the_width() {
         for (rule, number) in RULES.iter().zip(1..) {
-            let line = format!("\n{number}. {}\n", rule.words);
-            assert!(sheet.contains(&line), "{line}");
-            for detail in rule.details {
-                assert!(sheet.contains(detail), "{detail}");
+            for line in rule.whole_text(number).lines() {
+                assert!(line.len() <= WIDTH && line.trim_end() == line, "{line}");
             }
         }
     }
 
+    /// The numbers with a place are those of the format sheet.
     #[test]
-    fn there_are_twenty() {
-        assert!(rule(0).is_none() && rule(21).is_none());
-        assert!(rule(4).unwrap().words.contains("voice count"));
+    fn places_are_those_of_the_sheet() {
+        for (rule, number) in RULES.iter().zip(1..) {
+            let expected = match number {
+                7 | 10 | 11 | 13..=19 => "the first byte of the ",
+                20 => "the byte where reading stopped",
+                _ => "0",
+            };
+            assert!(rule.place.starts_with(expected), "{number}");
+        }
+    }
+
+    /// The table of docs/RULES.md has these words and places. More columns may follow.
+    #[test]
+    fn the_table_has_the_same_words() {
+        let path = Path::new(env!("CARGO_MANIFEST_DIR")).join("../../docs/RULES.md");
+        let table = fs::read_to_string(path).unwrap();
+        for (rule, number) in RULES.iter().zip(1..) {
+            assert!(!rule.words.contains('|') && !rule.place.contains('|'));
+            let row = format!("| {number} | {} | {} |", rule.words, rule.place);
+            let rows = table.lines().filter(|line| line.starts_with(&row));
+            assert_eq!(rows.count(), 1, "{row}");
+        }
     }
 }

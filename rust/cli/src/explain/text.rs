@@ -1,7 +1,7 @@
 //! Plain text for a terminal.
 
 /// Columns of a line of words.
-const WIDTH: usize = 88;
+pub const WIDTH: usize = 88;
 
 /// Words in lines of at most [`WIDTH`] columns, the second and later ones indented.
 pub fn wrapped(words: &str, indent: usize) -> String {

@@ -1,6 +1,6 @@
 //! `sgub explain`
 
-use crate::{P3, expect, root, run, sgub, with_input};
+use crate::{P3, directory, expect, root, run, sgub, with_input};
 use std::fs;
 use std::io::Write;
 use std::process::Stdio;
@@ -39,11 +39,81 @@ fn a_place_at_the_end_is_marked_there() {
 
 #[test]
 fn an_empty_file_has_no_bytes_to_show() {
-    let text = "refused 1 0\n\n\
-                Refusal 1: The file is shorter than its header: 48 bytes where byte 4 exists and is 4,\n           \
-                40 where it is 2 or 3, else 20.\n\n\
-                The file is empty.\n";
-    run(&["explain", "-"], 1, text, "");
+    let text = format!("refused 1 0\n\n{}\nThe file is empty.\n", rule(1).0);
+    run(&["explain", "-"], 1, &text, "");
+}
+
+/// What `sgub explain NUMBER` prints: the rule, and the two lines behind it.
+#[track_caller]
+fn rule(number: u32) -> (String, String) {
+    let output = sgub(["explain", &number.to_string()]).output().unwrap();
+    let text = String::from_utf8(output.stdout).unwrap();
+    let (rule, lines) = text.split_once("\nPlace: ").unwrap();
+    assert!(rule.starts_with(&format!("Refusal {number}: ")), "{text}");
+    assert_eq!((output.status.code(), output.stderr.len()), (Some(0), 0));
+    (rule.to_owned(), lines.to_owned())
+}
+
+#[test]
+fn each_number_has_a_rule_a_place_and_commands() {
+    for number in 1..=25 {
+        let (_, lines) = rule(number);
+        let (place, commands) = lines.split_once(".\nPrinted by: ").unwrap();
+        match number {
+            7 | 10 | 11 | 13..=19 => {
+                assert!(place.starts_with("the first byte of the "), "{place}")
+            }
+            20 => assert_eq!(place, "the byte where reading stopped"),
+            _ => assert_eq!(place, "0"),
+        }
+        match number {
+            1..=20 => assert_eq!(commands, "check, explain, play, repack, compare.\n"),
+            21 => assert_eq!(commands, "repack, compare.\n"),
+            22 | 23 => assert_eq!(commands, "repack.\n"),
+            _ => assert!(commands.starts_with("no command, "), "{commands}"),
+        }
+    }
+}
+
+/// `explain FILE` has the words of `explain NUMBER`.
+#[test]
+fn a_refused_file_has_the_words_of_its_number() {
+    for (number, place) in [(6, 0), (7, 80), (14, 424), (16, 20), (19, 327)] {
+        let file = format!("examples/refused-{number}.sgub");
+        let output = sgub(["explain", &file]).output().unwrap();
+        let text = String::from_utf8(output.stdout).unwrap();
+        let head = format!("refused {number} {place}\n\n{}\n", rule(number).0);
+        assert!(text.starts_with(&head), "{text}");
+    }
+}
+
+#[test]
+fn other_numbers_are_a_wrong_call() {
+    for number in ["0", "26", "00", "18446744073709551616"] {
+        let message = format!(
+            "sgub: no refusal {number}, only 1 to 25 (a file of that name is ./{number}); \
+             'sgub help' lists the commands\n"
+        );
+        run(&["explain", number], 2, "", &message);
+    }
+    let message = "sgub: --all is for a file, not for a number; 'sgub help' lists the commands\n";
+    run(&["explain", "--all", "16"], 2, "", message);
+}
+
+/// A number is a rule even where a file has it for a name.
+#[test]
+fn a_file_whose_name_is_a_number_is_given_by_its_folder() {
+    let folder = directory("explain-number");
+    fs::write(folder.join("16"), P3).unwrap();
+    let explain = |arguments: &[&str]| {
+        let mut command = sgub(["explain"]);
+        let output = command.args(arguments).current_dir(&folder).output();
+        String::from_utf8(output.unwrap().stdout).unwrap()
+    };
+    assert!(explain(&["16"]).starts_with("Refusal 16: "));
+    for arguments in [&["./16"][..], &["--", "16"], &["--all", "./16"]] {
+        assert!(explain(arguments).starts_with("accepted 1 1 0\n"));
+    }
 }
 
 /// Version 2 with one empty frame and pools of one byte.

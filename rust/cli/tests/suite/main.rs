@@ -4,9 +4,11 @@ mod check;
 mod compare;
 mod difference;
 mod explain;
+mod input;
 mod launcher;
 mod play;
 mod repack;
+mod result;
 mod usage;
 
 use std::ffi::OsStr;

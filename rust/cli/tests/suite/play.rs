@@ -104,12 +104,12 @@ fn a_refused_file_is_not_played() {
     );
 }
 
-/// Compiles `examples/play.c` as its own text says; `None` where there is no C compiler.
-fn example() -> Option<PathBuf> {
+/// Compiles `examples/play.c` as its own text says.
+fn example(test: &str) -> PathBuf {
     let library = env::var_os("SGUB_LIB_DIR")
         .map_or_else(|| root().join("target/staticlib"), PathBuf::from)
         .join("libsgub.a");
-    let program = directory("example").join("play");
+    let program = directory(test).join("play");
     let compiler = env::var_os("CC").unwrap_or_else(|| "cc".into());
     let output = Command::new(compiler)
         .args(["-std=c11", "-Wall", "-Wextra", "-Werror", "-Iinclude"])
@@ -117,25 +117,16 @@ fn example() -> Option<PathBuf> {
         .arg("-o")
         .arg(&program)
         .current_dir(root())
-        .output();
-    match output {
-        Ok(output) => {
-            let errors = String::from_utf8_lossy(&output.stderr);
-            assert!(output.status.success(), "{errors}");
-            Some(program)
-        }
-        Err(error) => {
-            eprintln!("skipped: there is no C compiler ({error})");
-            None
-        }
-    }
+        .output()
+        .expect("the example needs a C compiler: cc, or what CC names");
+    let errors = String::from_utf8_lossy(&output.stderr);
+    assert!(output.status.success(), "{errors}");
+    program
 }
 
 #[test]
 fn the_example_in_c_prints_the_same() {
-    let Some(example) = example() else {
-        return;
-    };
+    let example = example("example");
     for name in [
         "empty-1",
         "tune-1",
@@ -154,4 +145,22 @@ fn the_example_in_c_prints_the_same() {
         let text = String::from_utf8(ours.stdout).unwrap();
         expect(&theirs, ours.status.code().unwrap(), &text, "");
     }
+}
+
+/// Only a file that was read to its end has a verdict.
+#[test]
+fn the_example_in_c_says_what_it_cannot_read() {
+    let example = example("example-unread");
+    let run = |arguments: &[&str], status, stdout, stderr| {
+        let mut command = Command::new(&example);
+        let output = command.args(arguments).current_dir(root()).output();
+        expect(&output.unwrap(), status, stdout, stderr);
+    };
+    run(&["/dev/null"], 1, "refused 1 0\n", "");
+    let message = "play: examples: could not be read: Is a directory\n";
+    run(&["examples"], 2, "", message);
+    let message = "play: none: could not be opened: No such file or directory\n";
+    run(&["none"], 2, "", message);
+    run(&[], 2, "", "usage: play FILE\n");
+    run(&["one", "two"], 2, "", "usage: play FILE\n");
 }

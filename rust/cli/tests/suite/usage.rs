@@ -18,10 +18,10 @@ fn bad_usage_is_status_2() {
         "no option --all",
     );
     refused(&["check", "--"], "check needs a file");
-    refused(&["explain"], "explain takes one file");
+    refused(&["explain"], "explain takes one file or one number");
     refused(
         &["explain", "examples/empty-1.sgub", "examples/empty-2.sgub"],
-        "explain takes one file",
+        "explain takes one file or one number",
     );
     refused(
         &["explain", "--al", "examples/empty-1.sgub"],
@@ -48,6 +48,7 @@ fn help_names_every_command() {
     for command in [
         "check FILE...",
         "explain [--all] FILE",
+        "explain NUMBER",
         "play [OPTION]... FILE",
         "repack MASTER RESULT",
         "compare MASTER OTHER",
