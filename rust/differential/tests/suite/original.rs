@@ -1,8 +1,5 @@
 //! The original is what it was.
 
-use std::fs;
-use std::path::Path;
-
 const STREAM: &str = include_str!("../../original/stream.rs");
 const LICENSE: &str = include_str!("../../original/LICENSE");
 
@@ -16,19 +13,6 @@ fn the_original_has_its_sum() {
         sha256(LICENSE.as_bytes()),
         "324f8feec6e0352fb6c9faa08de90ad40b1f6e1f2c3a4085004d88acb060263c"
     );
-}
-
-#[test]
-fn the_original_equals_the_shared_copy_where_there_is_one() {
-    let beside = Path::new(env!("CARGO_MANIFEST_DIR")).join("../../../shared/docs/src");
-    for directory in [beside.as_path(), Path::new("/work/shared/docs/src")] {
-        if let Ok(text) = fs::read_to_string(directory.join("src/music/stream.rs")) {
-            assert!(text == STREAM, "{}", directory.display());
-        }
-        if let Ok(text) = fs::read_to_string(directory.join("LICENSE")) {
-            assert!(text == LICENSE, "{}", directory.display());
-        }
-    }
 }
 
 #[test]
