@@ -38,8 +38,8 @@ pub struct Agreement<C> {
     threads: usize,
 }
 
-/// Compares on all cores: each thread does its part and counts, and takes so many files at a time. None where library and
-/// original differ, which is printed.
+/// Has all cores compare what is asked for: each thread does its part, takes so many files at a time and counts, and the
+/// counts are added up. None where library and original differ, which is printed.
 pub fn compare<C: Default + AddAssign + Send>(
     amount: Amount,
     share: u64,
@@ -64,7 +64,7 @@ pub fn compare<C: Default + AddAssign + Send>(
 }
 
 impl<C> Agreement<C> {
-    /// Prints the closing line: what was compared, and in how long. Where the speed is of interest, so many of a thing were.
+    /// Prints the closing line: what was compared and how long it took, and for a number of things how many a second.
     pub fn close(
         &self,
         compared: impl Display,
