@@ -1,7 +1,7 @@
 //! The files of `examples/`, made from values.
 
+use crate::generators::mutate;
 use crate::model::{Card, FIRST_SLOT, Operation, PCM, Pool, SI22, Stream, WAVE};
-use crate::mutate;
 use crate::oracle;
 
 /// A file of `examples/`.
@@ -35,6 +35,15 @@ pub fn all() -> Vec<Example> {
         example("refused-16", record_too_high().to_bytes()),
         example("refused-19", copy_off_its_place().to_bytes()),
     ]
+}
+
+/// The file of a name.
+///
+/// # Panics
+/// If there is none.
+pub fn example(name: &str) -> Vec<u8> {
+    let found = all().into_iter().find(|example| example.name == name);
+    found.unwrap_or_else(|| panic!("no example {name}")).file
 }
 
 /// A master: eight bytes of PCM and the volumes of two channels in the opening; a wave and two notes in three frames.

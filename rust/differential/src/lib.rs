@@ -3,46 +3,17 @@
 #![forbid(unsafe_code)]
 #![warn(missing_docs)]
 
-// The module tree that the original expects around itself. Its song compiler is compiled and never run.
-mod devices {
-    pub mod sgu {
-        pub mod s3w2;
-    }
-}
-#[allow(dead_code, clippy::enum_variant_names)]
-mod music {
-    pub mod project;
-    pub mod stream;
-}
-mod wav;
-
-pub mod boundary;
-pub mod compare;
-pub mod compare_vectors;
-pub mod comparing;
+pub mod comparisons;
 pub mod examples;
-pub mod extremes;
-pub mod fields;
-pub mod generate;
-pub mod limits;
-pub mod listening;
-pub mod masters;
-pub mod memory;
-pub mod messages;
+pub mod generators;
 pub mod model;
-pub mod mutate;
 pub mod oracle;
-pub mod packing;
-pub mod pairs;
-pub mod play_vectors;
-pub mod playing;
-pub mod repack_vectors;
-pub mod repacking;
+pub mod plays;
+pub mod repacks;
 pub mod rng;
-pub mod shapes;
 pub mod sheet;
-pub mod short;
-pub mod survey;
-pub mod vectors;
-pub mod weight;
-pub mod writer;
+pub mod stored;
+pub mod verdicts;
+
+// The original names its surroundings by these paths.
+use oracle::{devices, wav};

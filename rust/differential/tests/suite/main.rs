@@ -1,19 +1,15 @@
-//! What the original says about the sheet's examples, what its repacker does, and what the generators make.
+//! The oracle is the original, the generators make what they say, and the library agrees with both original and sheet.
 
-mod comparing;
+mod comparisons;
 mod examples;
 mod generators;
-mod large;
-mod library;
-mod limits;
-mod masters;
-mod original;
-mod playing;
-mod repacker;
+mod oracle;
+mod plays;
+mod repacks;
 mod sheet;
+mod verdicts;
 
-use differential::messages;
-use differential::oracle;
+use differential::oracle::messages;
 
 /// Bytes written as in the sheet, in hexadecimal with spaces.
 fn hex(text: &str) -> Vec<u8> {
@@ -29,5 +25,6 @@ fn hex(text: &str) -> Vec<u8> {
 
 /// The sheet's numbers that the original's verdict can stand for; none for an accepted file.
 fn numbers(file: &[u8]) -> &'static [u8] {
-    oracle::verdict(file).map_or_else(|message| messages::numbers(&message), |_| &[])
+    let verdict = differential::oracle::verdict(file);
+    verdict.map_or_else(|message| messages::numbers(&message), |_| &[])
 }

@@ -1,9 +1,8 @@
 //! P1 to P12 of the sheet, as far as the original can say them, and its executed examples.
 
 use crate::{hex, numbers};
-use differential::messages;
 use differential::model::{Operation, Stream};
-use differential::oracle::{self, Player, Vsync};
+use differential::oracle::{self, Player, Vsync, messages};
 use differential::sheet::{self, opening};
 
 const P3: &str = "53475542 01100000 00000001 00000000 00000016 0000";

@@ -204,35 +204,38 @@ const HEAD: &str = "\
 /// The functions as Rust declares them, and a program that calls them.
 const CALLS: &str = include_str!("header.c");
 
-/// Compiles a C program and links it with the library; `None` where there is no C compiler.
-fn compile(name: &str, text: &str) -> Option<Result<PathBuf, String>> {
+/// Compiles a C program and links it with the library; where the compiler refuses it, what the compiler says.
+///
+/// # Panics
+/// If no C compiler can be run: a test that cannot be made has not passed.
+fn compile(name: &str, text: &str) -> Result<PathBuf, String> {
     let directory = Path::new(env!("OUT_DIR"));
     let (source, program) = (directory.join(format!("{name}.c")), directory.join(name));
     fs::write(&source, text).expect("OUT_DIR can be written");
     let compiler = env::var_os("CC").unwrap_or_else(|| "cc".into());
     let include = Path::new(env!("CARGO_MANIFEST_DIR")).join("../../include");
-    let output = Command::new(compiler)
+    let output = Command::new(&compiler)
         .args(["-std=c11", "-Wall", "-Werror", "-I"])
         .args([&include, &source, Path::new(env!("SGUB_ARCHIVE"))])
         .arg("-o")
         .arg(&program)
-        .output();
-    match output {
-        Ok(output) if output.status.success() => Some(Ok(program)),
-        Ok(output) => Some(Err(String::from_utf8_lossy(&output.stderr).into_owned())),
-        Err(error) => {
-            eprintln!("skipped: there is no C compiler ({error})");
-            None
-        }
+        .output()
+        .unwrap_or_else(|error| {
+            panic!(
+                "this test needs a C compiler, cc or the one that CC names: \
+                 {compiler:?} cannot be run: {error}"
+            )
+        });
+    if output.status.success() {
+        Ok(program)
+    } else {
+        Err(String::from_utf8_lossy(&output.stderr).into_owned())
     }
 }
 
 #[test]
 fn the_header_has_these_declarations_and_c_can_call_the_library() {
-    let Some(compiled) = compile("same", &program()) else {
-        return;
-    };
-    let program = compiled.unwrap_or_else(|errors| panic!("{errors}"));
+    let program = compile("same", &program()).unwrap_or_else(|errors| panic!("{errors}"));
     assert_eq!(Command::new(program).status().unwrap().code(), Some(0));
 }
 
@@ -245,8 +248,6 @@ fn other_declarations_are_refused() {
     ] {
         let wrong = program().replacen(old, new, 1);
         assert_ne!(wrong, program());
-        if let Some(compiled) = compile(name, &wrong) {
-            assert!(compiled.is_err(), "{name}");
-        }
+        assert!(compile(name, &wrong).is_err(), "{name}");
     }
 }

@@ -2,18 +2,16 @@
 #![forbid(unsafe_code)]
 
 mod bench;
-mod bench_compare;
-mod bench_play;
-mod bench_repack;
-mod commands;
-mod compares;
-mod play_vectors;
+mod comparisons;
+mod driver;
+mod files;
+mod oracle;
 mod plays;
 mod repacks;
 mod selftest;
 mod verdicts;
-mod work;
 
+use driver::Amount;
 use std::env;
 use std::error::Error;
 use std::io::{self, BufWriter, Write};
@@ -60,40 +58,47 @@ type Answer = Result<bool, Box<dyn Error>>;
 
 fn run(arguments: &[&str], out: &mut impl Write) -> Answer {
     match arguments {
-        ["verdict", files @ ..] if !files.is_empty() => commands::verdict(files, out),
-        ["play", file, vsyncs] => commands::play(file, vsyncs.parse()?, out),
-        ["repack", master, result] => commands::repack(master, result, out),
+        ["verdict", files @ ..] if !files.is_empty() => oracle::verdict(files, out),
+        ["play", file, vsyncs] => oracle::play(file, vsyncs.parse()?, out),
+        ["repack", master, result] => oracle::repack(master, result, out),
         ["generate", seed, count, directory] => {
-            commands::generate(seed.parse()?, count.parse()?, directory)
+            files::write_drawn(seed.parse()?, count.parse()?, directory)
         }
-        ["large", bytes, directory] => commands::large_files(bytes.parse()?, directory),
-        ["examples", directory] => commands::write_examples(directory),
-        ["vectors", directory, count] => commands::write_vectors(directory, count.parse()?, out),
-        ["play-vectors", directory, count] => {
-            play_vectors::write_vectors(directory, count.parse()?, out)
-        }
+        ["large", bytes, directory] => files::write_large(bytes.parse()?, directory),
+        ["examples", directory] => files::write_examples(directory),
+        ["vectors", directory, count] => verdicts::write_vectors(directory, count.parse()?, out),
+        ["play-vectors", directory, count] => plays::write_vectors(directory, count.parse()?, out),
         ["repack-vectors", directory, count] => {
             repacks::write_vectors(directory, count.parse()?, out)
         }
         ["compare-vectors", directory, count] => {
-            compares::write_vectors(directory, count.parse()?, out)
+            comparisons::write_vectors(directory, count.parse()?, out)
         }
-        ["verdicts", count] => verdicts::verdicts(count.parse()?, 1, out),
-        ["verdicts", count, seed] => verdicts::verdicts(count.parse()?, seed.parse()?, out),
-        ["plays", count] => plays::plays(count.parse()?, 1, out),
-        ["plays", count, seed] => plays::plays(count.parse()?, seed.parse()?, out),
-        ["bench"] => bench::bench(out),
-        ["bench", "play"] => bench_play::bench(out),
-        ["repacks", count] => repacks::repacks(count.parse()?, 1, out),
-        ["repacks", count, seed] => repacks::repacks(count.parse()?, seed.parse()?, out),
-        ["bench", "repack"] => bench_repack::bench(out),
-        ["compares", count] => compares::compares(count.parse()?, 1, out),
-        ["compares", count, seed] => compares::compares(count.parse()?, seed.parse()?, out),
-        ["bench", "compare"] => bench_compare::bench(out),
+        ["verdicts", numbers @ ..] => verdicts::compare(amount(numbers)?, out),
+        ["plays", numbers @ ..] => plays::compare(amount(numbers)?, out),
+        ["repacks", numbers @ ..] => repacks::compare(amount(numbers)?, out),
+        ["compares", numbers @ ..] => comparisons::compare(amount(numbers)?, out),
+        ["bench"] => bench::verdicts::bench(out),
+        ["bench", "play"] => bench::plays::bench(out),
+        ["bench", "repack"] => bench::repacks::bench(out),
+        ["bench", "compare"] => bench::comparisons::bench(out),
         ["selftest"] => selftest::selftest(1000, out),
         ["selftest", count] => selftest::selftest(count.parse()?, out),
         ["speed"] => selftest::speed(1_000_000, out),
         ["speed", count] => selftest::speed(count.parse()?, out),
         _ => Err(USAGE.into()),
     }
+}
+
+/// `COUNT [SEED]`; without a seed it is 1.
+fn amount(numbers: &[&str]) -> Result<Amount, Box<dyn Error>> {
+    let (count, seed) = match numbers {
+        [count] => (count, &"1"),
+        [count, seed] => (count, seed),
+        _ => return Err(USAGE.into()),
+    };
+    Ok(Amount {
+        count: count.parse()?,
+        seed: seed.parse()?,
+    })
 }

@@ -1,12 +1,12 @@
-//! The library's player against the original's over many files, on all cores.
+//! The library's player against the original's over many files, and stored plays.
 
 use crate::Answer;
-use crate::work::{self, Work};
-use differential::generate::{Choice, Family, Generator};
-use differential::playing::{Comparison, Played};
-use differential::{oracle, weight};
-use std::io::Write;
-use std::time::Instant;
+use crate::driver::{self, Amount, Part};
+use differential::generators::{Choice, Family, Generator};
+use differential::model::weight;
+use differential::oracle;
+use differential::plays::{Counts, Plays, vectors};
+use std::io::{self, Write};
 
 /// Files that a thread plays from one seed before it takes the next.
 const SHARE: u64 = 5_000;
@@ -14,69 +14,80 @@ const SHARE: u64 = 5_000;
 /// Files with more writes in one pass are not played.
 const MOST_WRITES: u64 = 100_000;
 
-/// Plays `count` accepted files that the seed gives, in both. False if the two differ, or if a version did not occur.
-pub fn plays(count: u64, seed: u64, out: &mut impl Write) -> Answer {
-    let threads = work::threads();
-    let start = Instant::now();
-    let work = Work::new(count, seed, SHARE);
-    let mut all = Played::default();
-    for part in work.on(threads, |_| run(&work)) {
-        all.add(part);
-    }
-    if work.differs(out)? {
+/// Plays accepted files, as many as asked for, in both. False if the two differ, or if a version did not occur.
+pub fn compare(amount: Amount, out: &mut impl Write) -> Answer {
+    let Some(agreement) = driver::compare(amount, SHARE, run, out)? else {
         return Ok(false);
-    }
-    let seconds = start.elapsed().as_secs_f64();
-    writeln!(
-        out,
-        "{:8}{:>14}{:>14}",
-        "version", "played once", "repeating"
-    )?;
-    for (version, (once, repeating)) in (1..).zip(all.files[0].iter().zip(all.files[1])) {
-        writeln!(out, "{version:<8}{once:>14}{repeating:>14}")?;
-    }
-    let Played {
+    };
+    let counts = &agreement.counts;
+    report(counts, out)?;
+    let Amount { count, seed } = amount;
+    let Counts {
         vsyncs,
         calls,
         writes,
         foreign,
         ..
-    } = all;
-    writeln!(
+    } = counts;
+    agreement.close(
+        format_args!(
+            "{count} files of seed {seed}: {vsyncs} vsyncs, {writes} writes in {calls} calls, {foreign} calls refused"
+        ),
+        Some((count, "files")),
         out,
-        "no difference in {count} files of seed {seed}: {vsyncs} vsyncs, {writes} writes in {calls} calls, {foreign} calls refused; {seconds:.1} s, {threads} threads, {:.0} files a second",
-        count as f64 / seconds
     )?;
-    Ok(all.numbers().iter().all(|number| **number > 0))
+    Ok(counts.all_occurred())
 }
 
-/// The part of one thread: shares until none is left. Of the files half are drawn at the limits of the sheet.
-fn run(work: &Work) -> Played {
-    let mut all = Played::default();
-    while let Some((seed, share)) = work.next_share() {
-        let mut comparison = Comparison::new(seed);
-        let mut generators = [Family::Valid, Family::Boundary].map(|family| {
-            let family = Some(family);
-            Generator::new(
-                seed,
-                Choice {
-                    family,
-                    ..Choice::ANY
-                },
-            )
-        });
+/// The part of one thread. Of the files half are drawn at the limits of the sheet.
+fn run(mut part: Part<'_>) -> Counts {
+    let mut counts = Counts::default();
+    while let Some(share) = part.next_share() {
+        let mut plays = Plays::new(share.seed);
+        let mut generators = [Family::Valid, Family::Boundary]
+            .map(|family| Generator::new(share.seed, Choice::of(family)));
         let mut done = 0;
-        while done < share {
+        while done < share.count {
             let file = generators[(done % 2) as usize].next_file();
             if oracle::judge(file).is_err() || weight::writes(file) > MOST_WRITES {
                 continue;
             }
-            if work.compare(&[file], || comparison.play(file)).is_none() {
+            if part.compare(&[file], || plays.play(file)).is_none() {
                 break;
             }
             done += 1;
         }
-        all.add(comparison.played());
+        counts += plays.counts();
     }
-    all
+    counts
+}
+
+/// A line for each version.
+fn report(counts: &Counts, out: &mut impl Write) -> io::Result<()> {
+    writeln!(
+        out,
+        "{:8}{:>14}{:>14}",
+        "version", "played once", "repeating"
+    )?;
+    let [once, repeating] = counts.files;
+    for (version, (once, repeating)) in (1..).zip(once.iter().zip(repeating)) {
+        writeln!(out, "{version:<8}{once:>14}{repeating:>14}")?;
+    }
+    Ok(())
+}
+
+/// Writes `plays.bin`. False if no call of its scripts is refused.
+pub fn write_vectors(directory: &str, count: usize, out: &mut impl Write) -> Answer {
+    let scripts = vectors::choose(count, 1)?;
+    let bytes = vectors::to_bytes(&scripts);
+    let calls = || scripts.iter().flat_map(|script| &script.calls);
+    let refused = calls().filter(|call| call.refused).count();
+    let counts = format_args!(
+        "{} scripts, {} calls, {refused} of them refused, {} bytes",
+        scripts.len(),
+        calls().count(),
+        bytes.len()
+    );
+    driver::write_vectors(directory, "plays", &bytes, counts, out)?;
+    Ok(refused > 0)
 }

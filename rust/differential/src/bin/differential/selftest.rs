@@ -1,12 +1,12 @@
 //! What the generators make, judged by the original: how often each verdict comes, and how fast.
 
 use crate::Answer;
-use differential::generate::{Choice, Family, Generator};
-use differential::messages::MESSAGES;
+use differential::generators::shapes::Shape;
+use differential::generators::{Choice, Family, Generator, short};
+use differential::model::weight;
+use differential::oracle::messages::MESSAGES;
+use differential::oracle::survey::Survey;
 use differential::oracle::{self, Accepted, Player, Vsync};
-use differential::shapes::Shape;
-use differential::survey::Survey;
-use differential::{short, weight};
 use std::io::Write;
 use std::time::Instant;
 

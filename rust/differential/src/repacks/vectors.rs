@@ -1,0 +1,122 @@
+//! Masters with their repackings, stored for programs that have no generators.
+
+use super::{Outcome, repack};
+use crate::generators::masters::{Masters, Waves, of_pcm, of_waves};
+use crate::generators::{Choice, Family, Generator};
+use crate::model::{Operation, PCM, Stream};
+use crate::{sheet, stored};
+use std::collections::HashSet;
+
+/// The longest file and the longest room that are stored.
+pub const LONGEST: usize = 65_536;
+
+/// The longest of the drawn files. Chance seldom makes a longer one worth its place.
+const LONGEST_DRAWN: usize = 4096;
+
+/// A file, the room that is lent, and the outcome, on which library and original agree.
+#[derive(Clone, Debug, PartialEq, Eq)]
+pub struct Vector {
+    /// The file.
+    pub file: Vec<u8>,
+    /// Bytes of the lent buffer.
+    pub room: usize,
+    /// The refusal's number and place; 0 and 0 for a result.
+    pub refusal: [u32; 2],
+    /// The result; empty for a refusal.
+    pub result: Vec<u8>,
+}
+
+/// So many vectors of a seed, the chosen files first. Each repacked file comes with room of its size, with more, or, as
+/// refusal 24, with a byte less.
+///
+/// # Errors
+/// Where library and original differ.
+pub fn choose(count: usize, seed: u64) -> Result<Vec<Vector>, String> {
+    let mut vectors = Vec::with_capacity(count);
+    for file in chosen() {
+        for less in [-9, 0, 1] {
+            vectors.push(vector(&file, less)?);
+        }
+    }
+    let mut known = HashSet::new();
+    let mut masters = Masters::new(seed);
+    // Files of any version with something at or beside a limit of the sheet: refusals 1 to 21.
+    let mut others = Generator::new(seed, Choice::of(Family::Boundary));
+    while vectors.len() < count {
+        let file = match vectors.len() % 8 {
+            0 => others.next_file(),
+            _ => masters.next_file(),
+        };
+        if file.len() <= LONGEST_DRAWN && known.insert(file.to_vec()) {
+            let less = [0, -1, 1, -60][known.len() % 4];
+            vectors.push(vector(file, less)?);
+        }
+    }
+    Ok(vectors)
+}
+
+/// What the issue asks for by name: the sheet's examples (P3, of which P7 is the result, and P11), no waves, one wave twice,
+/// all waves different, alike in front and behind, PCM of 1 byte and of as many as fit, and PCM writes in frames.
+fn chosen() -> Vec<Vec<u8>> {
+    let mut files: Vec<Vec<u8>> = sheet::rows().into_iter().map(|row| row.file).collect();
+    files.extend([of_pcm(1), of_pcm(2), of_pcm(13_000)]);
+    files.extend([
+        of_waves(Waves::Same, 2),
+        of_waves(Waves::Different, 2),
+        of_waves(Waves::Different, 50),
+        of_waves(Waves::AlikeInFront, 50),
+        of_waves(Waves::AlikeBehind, 50),
+    ]);
+    let mut frames = Stream::empty_frame(1);
+    frames.repeat = true;
+    for address in [0, 1, 0xF_FFFF] {
+        let records = [PCM, 0, 1].map(|target| Operation::write(target, address & 0x8ff, 7));
+        frames.frames.push(records.to_vec());
+        frames.frames.push(vec![Operation::write(PCM, address, 9)]);
+    }
+    files.push(frames.to_bytes());
+    files
+}
+
+/// A file with the room of its result, less so many bytes; a file that is refused with room for a hundred.
+fn vector(file: &[u8], less: isize) -> Result<Vector, String> {
+    let mut buffer = Vec::new();
+    let outcome =
+        repack(file, &mut buffer).map_err(|text| format!("{text}: {} bytes", file.len()))?;
+    let mut vector = Vector {
+        file: file.to_vec(),
+        room: 100,
+        refusal: [0, 0],
+        result: Vec::new(),
+    };
+    match outcome {
+        Outcome::Written(size) => {
+            vector.room = size.saturating_add_signed(-less);
+            if less > 0 {
+                vector.refusal = [24, 0];
+            } else {
+                vector.result = sgub::repack_to_vec(file).expect("it is repacked above");
+            }
+        }
+        Outcome::Refused(refusal) => vector.refusal = [refusal.number, refusal.place as u32],
+    }
+    assert!(file.len() <= LONGEST && vector.room <= LONGEST);
+    Ok(vector)
+}
+
+/// The stored form: for each vector the file's length, the file, room, number, place, the result's length and the result, then
+/// [`stored::END`].
+pub fn to_bytes(vectors: &[Vector]) -> Vec<u8> {
+    let mut bytes = Vec::new();
+    for vector in vectors {
+        let [number, place] = vector.refusal;
+        let [length, room, size] =
+            [vector.file.len(), vector.room, vector.result.len()].map(|number| number as u32);
+        stored::put(&mut bytes, &[length]);
+        bytes.extend(&vector.file);
+        stored::put(&mut bytes, &[room, number, place, size]);
+        bytes.extend(&vector.result);
+    }
+    stored::put(&mut bytes, &[stored::END]);
+    bytes
+}
