@@ -21,10 +21,10 @@ fn library_and_original_repack_alike() {
     assert!(counts.written > 1_000 && own[1] > 100, "{counts:?}");
 }
 
-/// The data of crates/repack_vectors is what `differential repack-vectors` writes.
+/// The data of crates/test_repacks is what `differential repack-vectors` writes.
 #[test]
 fn the_stored_vectors_are_these() {
-    let data = Path::new(env!("CARGO_MANIFEST_DIR")).join("../../crates/repack_vectors/data");
+    let data = Path::new(env!("CARGO_MANIFEST_DIR")).join("../../crates/test_repacks/data");
     let vectors = vectors::choose(400, 1).unwrap();
     let stored = fs::read(data.join("repacks.bin")).unwrap();
     assert!(stored == vectors::to_bytes(&vectors));
