@@ -12,7 +12,7 @@ use Rattle.base_format.specs.Promises.{Agree, Passes, PassesExactly}
 use Rattle.base_format.specs.Stream.{Stream, read}
 use Rattle.base_format.specs.Writes.{openingWrites}
 use Rattle.base_format.proofs.Checks.{through, passed-test, passed-last, and-true, ok-is}
-use Rattle.base_format.proofs.Same.{same-bool, same-bytes, same-writes, same-count, same-frame, bool-self, bytes-self, writes-self, frames-same}
+use Rattle.base_format.proofs.Equal.{same-bool, same-bytes, same-writes, same-count, same-frame, bool-self, bytes-self, writes-self, frames-same}
 
 pub agrees : (s s′ : Stream) → agree s s′ ≡ true → Agree s s′
 unfolding agree

@@ -5,7 +5,7 @@ use mathlib.Core.Path.{_≡_, refl, ap₂}
 use mathlib.Core.List.{List, [], _∷_, map, cons≢nil}
 use Rattle.base_format.specs.Bytes.{sameBytes}
 use Rattle.base_format.specs.Examples.{Row, failing, table, empty, emptyRepacked, withRecord, withFill}
-use Rattle.base_format.proofs.Same.{same-bytes}
+use Rattle.base_format.proofs.Equal.{same-bytes}
 use Rattle.base_format.proofs.Computed.{reading, writing, repacking, listing, playing}
 
 -- no row fails: where one does, the refusal shows its number

@@ -7,7 +7,7 @@ use native.Mathlib.Omega.{arith}
 use lib.ListN.{length, getD}
 use Rattle.base_format.specs.Bytes.{sameBytes}
 use Rattle.base_format.specs.Repack.{isKnown, placeOf, added}
-use Rattle.base_format.proofs.Same.{same-bytes, bytes-self}
+use Rattle.base_format.proofs.Equal.{same-bytes, bytes-self}
 
 pub known-snoc : (known : List (List ℕ)) (w bytes : List ℕ) → isKnown (known ++ (w ∷ [])) bytes ≡ (isKnown known bytes || sameBytes w bytes)
 unfolding isKnown

@@ -1,5 +1,5 @@
 pub mod Checks
-pub mod Rows
+pub mod InTurn
 pub mod As25
 pub mod Bytes
 pub mod Fields
@@ -11,7 +11,7 @@ pub mod Lent
 pub mod Known
 pub mod Decided
 pub mod Sizes
-pub mod Same
+pub mod Equal
 pub mod Compared
 pub mod Steps
 pub mod Next

@@ -1,5 +1,5 @@
 -- Files played, computed. Each stands here for the must-fail edits that it refuses; what holds of every file and every list of calls is proved
--- in the crate agreement.
+-- in the crate theorem_same_sound.
 use Prim.Native.Nat.{ℕ}
 use mathlib.Core.Path.{_≡_, refl}
 use mathlib.Core.List.{List, [], _∷_, _++_, map}

@@ -17,17 +17,17 @@ pub record Row : Type 0 where
   pub found : List ℕ
   pub expected : List ℕ
 
--- an answer as numbers: a refusal's number and place, or 0 and the numbers of what was accepted
+-- an answer as numbers: a refusal's number and place, or 0 and the numbers of what was saysAccepted
 abbrev pub answer : Checked (List ℕ) → List ℕ
 answer (ok numbers) = 0 ∷ numbers
 answer (refused number place) = number ∷ place ∷ []
 
 -- what the book expects of a file
-abbrev pub refusal : (number place : ℕ) → List ℕ
-refusal number place = number ∷ place ∷ []
+abbrev pub saysRefused : (number place : ℕ) → List ℕ
+saysRefused number place = number ∷ place ∷ []
 
-abbrev pub accepted : (version frames opening : ℕ) → List ℕ
-accepted version frames opening = 0 ∷ version ∷ frames ∷ opening ∷ []
+abbrev pub saysAccepted : (version frames opening : ℕ) → List ℕ
+saysAccepted version frames opening = 0 ∷ version ∷ frames ∷ opening ∷ []
 
 -- of a file that is read: version, frames and opening operations
 abbrev pub verdict : List ℕ → List ℕ
@@ -80,30 +80,30 @@ withFill target address size value =
 unfoldable pub table : List Row
 table =
     -- P1 "empty file: 1"
-    record { found = verdict []; expected = refusal 1 0 }
+    record { found = verdict []; expected = saysRefused 1 0 }
     -- P2 "the four letters alone: 1"
-    ∷ record { found = verdict (bytesOf 4 letters); expected = refusal 1 0 }
-    -- P3 "accepted, one empty frame"
-    ∷ record { found = verdict empty; expected = accepted 1 1 0 }
+    ∷ record { found = verdict (bytesOf 4 letters); expected = saysRefused 1 0 }
+    -- P3 "saysAccepted, one empty frame"
+    ∷ record { found = verdict empty; expected = saysAccepted 1 1 0 }
     -- P4 "frame count 0: 8"
-    ∷ record { found = verdict (set empty 11 0); expected = refusal 8 0 }
+    ∷ record { found = verdict (set empty 11 0); expected = saysRefused 8 0 }
     -- P5 "voices 15: 4"
-    ∷ record { found = verdict (set empty 5 15); expected = refusal 4 0 }
+    ∷ record { found = verdict (set empty 5 15); expected = saysRefused 4 0 }
     -- P6 "version 5: 3"
-    ∷ record { found = verdict (set empty 4 5); expected = refusal 3 0 }
+    ∷ record { found = verdict (set empty 4 5); expected = saysRefused 3 0 }
     -- P7 "P3 repacked"
     ∷ record { found = answer (repack empty); expected = 0 ∷ emptyRepacked }
     -- P8 "a core record at 0x8FF passes, at 0x900: 16"
-    ∷ record { found = verdict (withRecord 1 0x8FF 7); expected = accepted 1 1 1 }
-    ∷ record { found = verdict (withRecord 1 0x900 7); expected = refusal 16 20 }
+    ∷ record { found = verdict (withRecord 1 0x8FF 7); expected = saysAccepted 1 1 1 }
+    ∷ record { found = verdict (withRecord 1 0x900 7); expected = saysRefused 16 20 }
     -- P9 "version 1 target 3: 15"
-    ∷ record { found = verdict (withRecord 3 0 7); expected = refusal 15 20 }
+    ∷ record { found = verdict (withRecord 3 0 7); expected = saysRefused 15 20 }
     -- P10 "core FILL at 0x7FF length 1 passes, 2: 17"
-    ∷ record { found = verdict (withFill 0 0x7FF 1 7); expected = accepted 2 1 1 }
-    ∷ record { found = verdict (withFill 0 0x7FF 2 7); expected = refusal 17 40 }
+    ∷ record { found = verdict (withFill 0 0x7FF 1 7); expected = saysAccepted 2 1 1 }
+    ∷ record { found = verdict (withFill 0 0x7FF 2 7); expected = saysRefused 17 40 }
     -- P11 "opening PCM record (0, 0x55) and one empty frame": "repacks to 84 bytes"; "first at address 1: 22"
     ∷ record { found = answer (mapped (λ (bytes : List ℕ). length bytes ∷ []) (repack (withRecord 2 0 0x55))); expected = 0 ∷ 84 ∷ [] }
-    ∷ record { found = answer (repack (withRecord 2 1 0x55)); expected = refusal 22 0 }
+    ∷ record { found = answer (repack (withRecord 2 1 0x55)); expected = saysRefused 22 0 }
     -- P12 "P3 played: no writes, then 32, then none"
     ∷ record { found = plays 3 empty; expected = writes 0 ++ writes 32 ++ writes 0 }
     ∷ []

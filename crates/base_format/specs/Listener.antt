@@ -42,7 +42,7 @@ sameCalls file room count = replicate count (record { file = file; room = room }
 -- a call gets the player's own file, or "any bytes if 25 refuses them or the state is finished"
 pub data Admissible (own : List ℕ) (state : StreamPlayer) (c : Call) : Type 0 where
   ownFile : c .file ≡ own → Admissible own state c
-  refusedFile : call state (c .file) (c .room) ≡ refused 25 0 → Admissible own state c
+  refusedBytes : call state (c .file) (c .room) ≡ refused 25 0 → Admissible own state c
   finishedState : state .progress .finished ≡ true → Admissible own state c
 
 abbrev pub AllAdmissible : (own : List ℕ) → StreamPlayer → List Call → Type 0

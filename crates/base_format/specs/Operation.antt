@@ -50,6 +50,12 @@ extras = 3 ∷ 7 ∷ 12 ∷ []
 unfoldable pub sizeOf : (width opcode : ℕ) → ℕ
 sizeOf width opcode = getD sizes ((width - 3) * 3 + opcode) 0
 
+-- the opcode of an operation
+abbrev pub opcodeOf : Operation → ℕ
+opcodeOf (Write target address value) = 0
+opcodeOf (Fill target address size value) = 1
+opcodeOf (Copy target address pool source size) = 2
+
 -- the fields of the operation whose opcode stands at a place
 unfoldable pub fieldsAt : List ℕ → (width at opcode : ℕ) → Operation
 fieldsAt file width at zero = Write (byte file (at + 1)) (be width file (at + 2)) (byte file (at + 2 + width))

@@ -22,7 +22,7 @@ use Rattle.base_format.specs.WaveSources.{waveSourceAt}
 use Rattle.base_format.specs.Writes.{openingWrites, frameWrites, vsync}
 use Rattle.base_format.specs.Written.{written}
 
--- ONE READING (round_trip/proofs/Reading)
+-- ONE READING (theorem_one_reading/proofs/Reading)
 
 -- a file is accepted exactly as the stream within the limits that is written as its bytes, and there is at most one
 abbrev pub OneReading : Type 0
@@ -54,19 +54,19 @@ pub record Passes (master other : List ℕ) (image image′ : ℕ) : Type 0 wher
   pub room : pcmSize ≤ image
   pub room′ : pcmSize ≤ image′
 
--- the comparison passes exactly then (format/proofs/Compared)
+-- the comparison passes exactly then (base_format/proofs/Compared)
 abbrev pub PassesExactly : Type 0
 PassesExactly =
     (master other : List ℕ) (image image′ : ℕ) → (compared master other image image′ ≡ agreed true) ↔ Passes master other image image′
 
--- what repacking makes of a master is accepted as the repacked stream, and passes with its master (round_trip/proofs/Repacked)
+-- what repacking makes of a master is accepted as the repacked stream, and passes with its master (theorem_one_reading/proofs/Repacked)
 abbrev pub RepackedPasses : Type 0
 RepackedPasses =
     (master result : List ℕ) (image image′ : ℕ) → AllBytes master → repack master ≡ ok result
     → ((s : Stream) → read master ≡ ok s → read result ≡ ok (repacked s))
     × (pcmSize ≤ image → pcmSize ≤ image′ → compared master result image image′ ≡ agreed true)
 
--- PLAYING (agreement/proofs; `Reports`: format/proofs/Lent)
+-- PLAYING (theorem_same_sound/proofs; `Reports`: base_format/proofs/Lent)
 
 -- what a call reports, so many records from the front of the run as it leaves it, is what it answers
 abbrev pub Reports : Type 0
@@ -102,7 +102,7 @@ WaveSourceIs =
     → waveSource (reached (started file) calls) core channel
     ≡ waveSourceAt s (completed (answers (started file) calls)) (length (underWay (answers (started file) calls))) core channel
 
--- DEMAND 3 (agreement/proofs/Agreement): files that the comparison passes sound the same
+-- DEMAND 3 (theorem_same_sound/proofs/SameSound): files that the comparison passes sound the same
 
 -- what holds of the answers that two players told their listeners, which `Reports` says are the records reported: "both listeners hold the
 -- same", and "each vsync's records, over its calls, are its writes"

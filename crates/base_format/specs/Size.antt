@@ -1,4 +1,4 @@
--- The sizes and limits that the sheet gives in bytes. Those of targets are the crate targets' definitions; the table of operations'
+-- The sizes and limits that the sheet gives in bytes. Those of targets are the crate base_targets' definitions; the table of operations'
 -- lengths is in Operation.
 use Prim.Native.Nat.{ℕ}
 

@@ -1,4 +1,4 @@
--- What a target number stands for in a file. A target's own limits are the crate targets' definitions, passed on here.
+-- What a target number stands for in a file. A target's own limits are the crate base_targets' definitions, passed on here.
 use Prim.Native.Nat.{ℕ}
 use mathlib.Core.Bool.{cond}
 use mathlib.Core.List.{List, [], _∷_}

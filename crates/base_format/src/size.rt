@@ -1,5 +1,5 @@
 // The sizes and limits that the sheet gives in bytes; specs/Size.antt has them for the definitions. The table of operations' lengths is
-// the crate widths', and the targets' limits are those of Target.
+// the crate bytes_operation_size's, and the targets' limits are those of Target.
 
 // A record of version 1.
 pub const RECORD_SIZE: usize = 5;

@@ -1,4 +1,4 @@
-// Where a player is in its file: by value, and stored in a lent state. A progress is made from a position (crate state).
+// Where a player is in its file: by value, and stored in a lent state. A progress is made from a position (crate base_state).
 mod store;
 
 use base_format::Header;

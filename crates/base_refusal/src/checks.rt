@@ -4,7 +4,7 @@ use base_format::Rule;
 use base_format::Verdict;
 ghost use mathlib.Core.Path.{_≡_};
 ghost use Rattle.base_format.specs.Rule.{verdictOf};
-ghost use Rattle.base_refusal.specs.Row.{refusedIf, inTurn};
+ghost use Rattle.base_refusal.specs.InTurn.{refusedIf, inTurn};
 
 // Refused by a rule at a place if the test says so.
 pub fn refuse(rule: Rule, place: usize, test: bool) -> Verdict

@@ -1,2 +1,2 @@
--- What the contracts of `fields` cite.
+-- What the contracts of `bytes_operation` cite.
 pub mod Decoded

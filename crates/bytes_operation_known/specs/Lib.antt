@@ -1,2 +1,2 @@
--- What the contracts of `fields_known` cite.
+-- What the contracts of `bytes_operation_known` cite.
 pub mod Known

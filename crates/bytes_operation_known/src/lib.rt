@@ -1,5 +1,5 @@
 // The reader's numbers where a test or an earlier pass has told the opcode: of a WRITE or a FILL, and of a COPY. No load waits for the
-// opcode, and the compiler joins the bytes of a number to one load. Each is the number of crate fields (proofs/Laws).
+// opcode, and the compiler joins the bytes of a number to one load. Each is the number of crate bytes_operation (proofs/Laws).
 use bytes_operation::opcode_in;
 use bytes_operation::operation_size;
 use bytes_read::byte_at;

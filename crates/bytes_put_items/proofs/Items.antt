@@ -10,7 +10,7 @@ use lib.ListN.{length, length-append}
 use Rattle.base_format.specs.declared.operation.Operation.{Operation}
 use Rattle.base_format.specs.declared.operation.Operation.the-variants.{Write, Fill, Copy}
 use Rattle.base_format.specs.Bytes.{u16}
-use Rattle.base_format.specs.Operation.{addressWidth, sizeOf}
+use Rattle.base_format.specs.Operation.{addressWidth, sizeOf, opcodeOf}
 use Rattle.base_format.specs.Written.{operationFields, itemBytes}
 use Rattle.base_format.proofs.Sizes.{size-is, width-range}
 use Rattle.base_format.proofs.Fields.{fieldsSize, fields-size}
@@ -18,7 +18,7 @@ use Rattle.bytes_read.specs.Put.{put}
 use Rattle.bytes_read.proofs.Sequence.{put-prepend}
 use Rattle.bytes_put_fields.specs.Fields.{putFields, Narrow}
 use Rattle.bytes_put_fields.proofs.Laid.{put-fields}
-use Rattle.bytes_put_items.specs.Items.{operationBytes, opcodeOf, sizeIn, countBytes}
+use Rattle.bytes_put_items.specs.Items.{operationBytes, sizeIn, countBytes}
 
 -- the fields of an operation have the size of the table
 pub fields-long : (width : ℕ) (operation : Operation) → 3 ≤ width → width ≤ 4 → fieldsSize (operationFields width operation) ≡ sizeOf width (opcodeOf operation)

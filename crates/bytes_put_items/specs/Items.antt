@@ -2,9 +2,8 @@
 use Prim.Native.Nat.{ℕ}
 use mathlib.Core.List.{List, [], _∷_}
 use Rattle.base_format.specs.declared.operation.Operation.{Operation}
-use Rattle.base_format.specs.declared.operation.Operation.the-variants.{Write, Fill, Copy}
 use Rattle.base_format.specs.Bytes.{Field, u8, u, u16, bytesOfAll}
-use Rattle.base_format.specs.Operation.{addressWidth, sizeOf}
+use Rattle.base_format.specs.Operation.{addressWidth, sizeOf, opcodeOf}
 use Rattle.base_format.specs.Written.{operationFields}
 
 abbrev pub operationBytes : (width : ℕ) → Operation → List ℕ
@@ -13,11 +12,6 @@ operationBytes width operation = bytesOfAll (operationFields width operation)
 -- the fields that every operation begins with
 abbrev pub headFields : (width opcode target address : ℕ) → List Field
 headFields width opcode target address = u8 opcode ∷ u8 target ∷ u width address ∷ []
-
-abbrev pub opcodeOf : Operation → ℕ
-opcodeOf (Write target address value) = 0
-opcodeOf (Fill target address size value) = 1
-opcodeOf (Copy target address pool source size) = 2
 
 -- the size by the table of lengths
 abbrev pub sizeIn : (version : ℕ) → Operation → ℕ

@@ -1,5 +1,5 @@
 // Numbers of a file, highest byte first, at a width of one to four bytes. Past the file's end every byte reads as 0, so that no function
-// asks anything of its place. The functions that write numbers are the crate puts', passed on here.
+// asks anything of its place. The functions that write numbers are the crate bytes_put's, passed on here.
 use bytes_load::load_2;
 use bytes_load::load_3;
 use bytes_load::load_4;

@@ -2,10 +2,10 @@
 use mathlib.Core.Bool.{Bool}
 use Rattle.base_format.specs.Checked.{Checked, ok}
 use Rattle.base_format.specs.Rule.{refusal}
-use Rattle.check_body.specs.declared.body.PartsRead.{PartsRead}
-use Rattle.check_body.specs.declared.body.PartsRead.the-variants.{Whole, Refused}
+use Rattle.check_body.specs.declared.body.BodyRead.{BodyRead}
+use Rattle.check_body.specs.declared.body.BodyRead.the-variants.{Whole, Refused}
 
 -- whether an operation has target 11, or the refusal
-abbrev pub partsOf : PartsRead → Checked Bool
-partsOf (Whole si22) = ok si22
-partsOf (Refused r) = refusal r
+abbrev pub bodyOf : BodyRead → Checked Bool
+bodyOf (Whole si22) = ok si22
+bodyOf (Refused r) = refusal r

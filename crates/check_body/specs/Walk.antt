@@ -20,8 +20,8 @@ framesChecked setting header file si22 = do
   ok (frames .1)
 
 -- the rules 13 to 20: whether an operation has target 11
-abbrev pub partsFrom : Setting → Header → List ℕ → Checked Bool
-partsFrom setting header file = do
+abbrev pub bodyFrom : Setting → Header → List ℕ → Checked Bool
+bodyFrom setting header file = do
   opening ← walked setting file (openingLimit header file) (header .«initial_count») (header .«initial_start»)
   refuse 20 (opening .0) (not (eqb (opening .0) (header .«frame_start»)))
   framesChecked setting header file (opening .1)

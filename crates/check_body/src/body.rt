@@ -12,11 +12,11 @@ ghost use mathlib.Core.Path.{_≡_};
 ghost use Rattle.base_format.specs.Card.{cardsOf};
 ghost use Rattle.base_format.specs.Operation.{settingOf};
 ghost use Rattle.check_fast_limits.specs.Limits.{limitTable};
-ghost use Rattle.check_body.specs.Walk.{framesChecked, partsFrom};
-ghost use Rattle.check_body.specs.Answer.{partsOf};
+ghost use Rattle.check_body.specs.Walk.{framesChecked, bodyFrom};
+ghost use Rattle.check_body.specs.Answer.{bodyOf};
 
 // Whether an operation of the file has target 11; or a refusal.
-pub enum PartsRead {
+pub enum BodyRead {
     Whole { si22: bool },
     Refused(Refusal),
 }
@@ -28,39 +28,39 @@ fn check_frames_end(
     cards: CardTable,
     table: &LimitTable,
     si22: bool,
-) -> PartsRead
+) -> BodyRead
     requires { ⌜ now table ≡ limitTable (header .version) (cardsOf cards) ⌝ }
-    ensures { λ r. ⌜ partsOf r ≡ framesChecked (settingOf (now (file .entry)) header cards) header (now (file .entry)) si22 ⌝ }
+    ensures { λ r. ⌜ bodyOf r ≡ framesChecked (settingOf (now (file .entry)) header cards) header (now (file .entry)) si22 ⌝ }
 {
     match check_frames(file, header, cards, table, si22) {
         Walked::End { place, si22 } => {
             if place != file.len() {
-                return PartsRead::Refused(Refusal {
+                return BodyRead::Refused(Refusal {
                     rule: Rule::Ending,
                     place,
                 });
             }
-            PartsRead::Whole { si22 }
+            BodyRead::Whole { si22 }
         }
-        Walked::Refused(refusal) => PartsRead::Refused(refusal),
+        Walked::Refused(refusal) => BodyRead::Refused(refusal),
     }
 }
 
 // The opening, which ends where the frames start, and the frames.
-pub fn check_parts(file: &[u8], header: Header, cards: CardTable) -> PartsRead
-    ensures { λ r. ⌜ partsOf r ≡ partsFrom (settingOf (now (file .entry)) header cards) header (now (file .entry)) ⌝ }
+pub fn check_body(file: &[u8], header: Header, cards: CardTable) -> BodyRead
+    ensures { λ r. ⌜ bodyOf r ≡ bodyFrom (settingOf (now (file .entry)) header cards) header (now (file .entry)) ⌝ }
 {
     let table = limit_table(header.version, cards);
     match check_opening(file, header, cards, &table) {
         Walked::End { place, si22 } => {
             if place != header.frame_start {
-                return PartsRead::Refused(Refusal {
+                return BodyRead::Refused(Refusal {
                     rule: Rule::Ending,
                     place,
                 });
             }
             check_frames_end(file, header, cards, &table, si22)
         }
-        Walked::Refused(refusal) => PartsRead::Refused(refusal),
+        Walked::Refused(refusal) => BodyRead::Refused(refusal),
     }
 }

@@ -4,5 +4,5 @@ mod empty_frames;
 mod frames;
 mod opening;
 
-pub use body::PartsRead;
-pub use body::check_parts;
+pub use body::BodyRead;
+pub use body::check_body;

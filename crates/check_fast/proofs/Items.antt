@@ -21,7 +21,7 @@ use Rattle.base_format.proofs.Sizes.{size-most, width-range}
 use Rattle.bytes_operation.specs.declared.decode.Decoded.{Decoded}
 use Rattle.bytes_operation.specs.Decoded.{decodedOperation, decodedRecord, decodedItem, operationOf}
 use Rattle.bytes_operation.proofs.Laws.{item-decoded}
-use Rattle.check_items.specs.Walk.{stepped}
+use Rattle.check_items.specs.Walk.{walkStep}
 use Rattle.check_fast_limits.specs.Limits.{limitsFor, limitTable, limitsAt}
 use Rattle.check_fast_limits.proofs.Tabled.{limits-at}
 use Rattle.check_fast_rules.specs.Quick.{outOfBulk, poolFits}
@@ -109,7 +109,7 @@ module _ (version : ℕ) (cards : List CardRequirement) (pools directory : ℕ) 
   -- an item of the version that is passed by the limits of its target
   item-step : (seen : Bool) (item : Decoded) → item ≡ decodedItem version (part file at 16) → item .size ≤ 16 → item .target < 12
       → itemPasses file pools directory (limitsAt (limitTable version cards) (item .target)) item ≡ true
-      → stepped seen (setting version cards pools directory file) file limit at ≡ ok (at + item .size, seen || eqb (item .target) 11)
+      → walkStep seen (setting version cards pools directory file) file limit at ≡ ok (at + item .size, seen || eqb (item .target) 11)
   item-step seen item e small below passed =
       let fine = item-allowed version cards pools directory file at item (rw (limits-at version cards (item .target) below) at passed) in
       let step = item-decoded (setting version cards pools directory file) file limit at (rw (← e) (fine .0)) (rw (← e) (omega arith)) in
@@ -159,7 +159,7 @@ module _ (version : ℕ) (cards : List CardRequirement) (pools directory : ℕ) 
       is : item ≡ decodedItem version (part file at 16)
       is = unfold decodedItem in rw one
 
-      go : (past : Bool) → ltb last at ≡ past → said past .passed ≡ true → stepped seen (setting version cards pools directory file) file limit at ≡ ok (at + said past .size, seen || false)
+      go : (past : Bool) → ltb last at ≡ past → said past .passed ≡ true → walkStep seen (setting version cards pools directory file) file limit at ≡ ok (at + said past .size, seen || false)
       go true e h = absurd (false≢true h)
       go false e h =
           let some = chosen (leb 12 (item .target)) _ h in
@@ -188,7 +188,7 @@ module _ (version : ℕ) (cards : List CardRequirement) (pools directory : ℕ) 
       marked = unfold decodedOperation in refl
 
       go : (past foreign unknown : Bool) → ltb last at ≡ past → leb 12 (item .target) ≡ foreign → ltb 2 (item .opcode) ≡ unknown → said past foreign unknown .passed ≡ true
-          → stepped seen (setting version cards pools directory file) file limit at ≡ ok (at + said past foreign unknown .size, seen || hasSi22 file at)
+          → walkStep seen (setting version cards pools directory file) file limit at ≡ ok (at + said past foreign unknown .size, seen || hasSi22 file at)
       go true foreign unknown e f u h = absurd (false≢true h)
       go false true unknown e f u h = absurd (false≢true h)
       go false false true e f u h = absurd (false≢true h)

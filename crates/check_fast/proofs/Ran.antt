@@ -17,13 +17,13 @@ use Rattle.check_fast.specs.Run.{runFrom, recordTest, operationTest, has
 use Rattle.check_fast.proofs.Items.{setting, record-steps, operation-steps}
 use Rattle.check_fast.proofs.Runs.{ran}
 
--- what is left behind a run
-abbrev pub behind : (version : ℕ) → List CardRequirement → (pools directory : ℕ) → List ℕ → (limit : ℕ) → QuickRun → Checked (ℕ × Bool)
-behind version cards pools directory file limit run =
+-- what is left leftBehind a run
+abbrev pub leftBehind : (version : ℕ) → List CardRequirement → (pools directory : ℕ) → List ℕ → (limit : ℕ) → QuickRun → Checked (ℕ × Bool)
+leftBehind version cards pools directory file limit run =
     walkedWith (run .si22) (setting version cards pools directory file) file limit (run .left) (run .at)
 
 pub quick-ran : (version : ℕ) (cards : List CardRequirement) (pools directory : ℕ) (file : List ℕ) (table : List (List ℕ)) (limit count at : ℕ) → table ≡ limitTable version cards
-    → walked (setting version cards pools directory file) file limit count at ≡ behind version cards pools directory file limit (quickRun version file pools directory table limit count at)
+    → walked (setting version cards pools directory file) file limit count at ≡ leftBehind version cards pools directory file limit (quickRun version file pools directory table limit count at)
 unfolding quickRun
 quick-ran version cards pools directory file table limit count at is = rw is (go (ltb end 16) refl (eqb version 1) refl)
   where
@@ -38,7 +38,7 @@ quick-ran version cards pools directory file table limit count at is = rw is (go
         cond short (record { at = at; left = count; si22 = false })
         (cond one (recordsRun file known (end - 16) count at) (operationsFrom (addressWidth version) file pools directory known (end - 16) count at false))
 
-    go : (short : Bool) → ltb end 16 ≡ short → (one : Bool) → eqb version 1 ≡ one → walked (setting version cards pools directory file) file limit count at ≡ behind version cards pools directory file limit (run short one)
+    go : (short : Bool) → ltb end 16 ≡ short → (one : Bool) → eqb version 1 ≡ one → walked (setting version cards pools directory file) file limit count at ≡ leftBehind version cards pools directory file limit (run short one)
     go true e one v = refl
     go false e true v =
         let room : end - 16 + 16 ≤ limit = omega (arith, ltb-false end 16 e) in

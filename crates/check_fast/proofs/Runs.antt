@@ -7,7 +7,7 @@ use native.Mathlib.Nat.{not-suc-le-zero}
 use native.Mathlib.Omega.{arith}
 use Rattle.base_format.specs.Checked.{Checked, ok}
 use Rattle.base_format.specs.Operation.{Setting}
-use Rattle.check_items.specs.Walk.{stepped, walkedWith}
+use Rattle.check_items.specs.Walk.{walkStep, walkedWith}
 use Rattle.check_items.proofs.Steps.{walk-step}
 use Rattle.check_fast.specs.declared.item.Quick.{Quick}
 use Rattle.check_fast.specs.Run.{runFrom}
@@ -33,7 +33,7 @@ module _ (test : ℕ → Quick) (marks : ℕ → Bool) where
   -- each item that is passed is one step
   abbrev pub Steps : Setting → List ℕ → (limit : ℕ) → Type 0
   Steps setting file limit =
-      (seen : Bool) (at : ℕ) → test at .passed ≡ true → stepped seen setting file limit at ≡ ok (at + test at .size, seen || marks at)
+      (seen : Bool) (at : ℕ) → test at .passed ≡ true → walkStep seen setting file limit at ≡ ok (at + test at .size, seen || marks at)
 
   module _ (setting : Setting) (file : List ℕ) (limit : ℕ) where
     -- what is left behind a run

@@ -1,3 +1,3 @@
--- What the contracts of `quick_operations` cite.
+-- What the contracts of `check_fast` cite.
 pub mod Passes
 pub mod Run

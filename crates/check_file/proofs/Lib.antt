@@ -1,3 +1,3 @@
 pub mod Reading
-pub mod TableRow
+pub mod Tables
 pub mod Answers

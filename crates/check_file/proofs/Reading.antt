@@ -14,7 +14,7 @@ use Rattle.base_format.proofs.Accepted.{header-passed}
 use Rattle.base_format.proofs.Cards.{table-cards}
 use Rattle.check_file.specs.Answer.{recordOf}
 use Rattle.check_file.specs.Walk.{behindHeader}
-use Rattle.base_format.proofs.Rows.{mapped-bind, mapped-then, bind-mapped, bind-bind, then-bind, bind-then, then-then}
+use Rattle.base_format.proofs.InTurn.{mapped-bind, mapped-then, bind-mapped, bind-bind, then-bind, bind-then, then-then}
 
 -- the header that is found is the file's
 pub header-is : (file : List ℕ) (header : Header) → headerFrom file ≡ ok header → header ≡ headerOf file

@@ -9,13 +9,13 @@ use Rattle.base_format.specs.Header.{headerSize}
 use Rattle.base_format.specs.Operation.{settingOf}
 use Rattle.base_format.specs.State.{tableOf}
 use Rattle.check_tables.specs.Layout.{layoutFrom}
-use Rattle.check_body.specs.Walk.{partsFrom}
+use Rattle.check_body.specs.Walk.{bodyFrom}
 use Rattle.check_file.specs.Answer.{Recorded}
 
 -- what is recorded behind the tables
 abbrev pub behindTables : List ℕ → Header → CardTable → Checked Recorded
 behindTables file header table =
-    partsFrom (settingOf file header table) header file >>= λ uses. ok (record { header = header; cards = table; «uses_si22» = uses })
+    bodyFrom (settingOf file header table) header file >>= λ uses. ok (record { header = header; cards = table; «uses_si22» = uses })
 
 -- and behind the header
 abbrev pub behindHeader : List ℕ → Header → Checked Recorded

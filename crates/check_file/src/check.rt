@@ -4,8 +4,8 @@ use base_format::Header;
 use base_format::Refusal;
 use base_format::Verdict;
 use base_state::no_cards;
-use check_body::PartsRead;
-use check_body::check_parts;
+use check_body::BodyRead;
+use check_body::check_body;
 use check_cards::parse_v4_cards;
 use check_header::HeaderRead;
 use check_header::read_header;
@@ -30,7 +30,7 @@ pub struct FileCheck {
 }
 
 // A refused file.
-fn refused_file(refusal: Refusal) -> FileCheck
+fn refused_check(refusal: Refusal) -> FileCheck
     ensures { λ r. ⌜ fileCheckOf r ≡ whole (rule.refusal refusal) ⌝ }
 {
     let cards = no_cards();
@@ -44,15 +44,15 @@ fn refused_file(refusal: Refusal) -> FileCheck
 fn check_behind_tables(file: &[u8], header: Header, cards: CardTable) -> FileCheck
     ensures { λ r. ⌜ fileCheckOf r ≡ whole (behindTables (now (file .entry)) header cards) ⌝ }
 {
-    match check_parts(file, header, cards) {
-        PartsRead::Whole { si22 } => FileCheck {
+    match check_body(file, header, cards) {
+        BodyRead::Whole { si22 } => FileCheck {
             answer: FileAnswer::Accepted {
                 header,
                 uses_si22: si22,
             },
             cards,
         },
-        PartsRead::Refused(refusal) => refused_file(refusal),
+        BodyRead::Refused(refusal) => refused_check(refusal),
     }
 }
 
@@ -66,7 +66,7 @@ fn check_behind_header(file: &[u8], header: Header) -> FileCheck
     let cards = read.cards;
     match check_layout(file, header, verdict) {
         Verdict::Allowed => check_behind_tables(file, header, cards),
-        Verdict::Refused(refusal) => refused_file(refusal),
+        Verdict::Refused(refusal) => refused_check(refusal),
     }
 }
 
@@ -76,6 +76,6 @@ pub fn check_file(file: &[u8]) -> FileCheck
 {
     match read_header(file) {
         HeaderRead::Found(header) => check_behind_header(file, header),
-        HeaderRead::Refused(rule) => refused_file(Refusal { rule, place: 0 }),
+        HeaderRead::Refused(rule) => refused_check(Refusal { rule, place: 0 }),
     }
 }

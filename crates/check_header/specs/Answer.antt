@@ -6,6 +6,6 @@ use Rattle.check_header.specs.declared.HeaderRead.{HeaderRead}
 use Rattle.check_header.specs.declared.HeaderRead.the-variants.{Found, Refused}
 
 -- the header's fields, or the refusal, whose place is 0
-abbrev pub headerIn : HeaderRead → Checked Header
-headerIn (Found header) = ok header
-headerIn (Refused rule) = refused (numberOf rule) 0
+abbrev pub headerReadOf : HeaderRead → Checked Header
+headerReadOf (Found header) = ok header
+headerReadOf (Refused rule) = refused (numberOf rule) 0

@@ -9,7 +9,7 @@ use check_header_rules::header_size;
 use check_header_rules::period_wrong;
 ghost use mathlib.Core.Path.{_≡_};
 ghost use Rattle.base_format.specs.Header.{headerFrom};
-ghost use Rattle.check_header.specs.Answer.{headerIn};
+ghost use Rattle.check_header.specs.Answer.{headerReadOf};
 
 pub enum HeaderRead {
     Found(Header),
@@ -18,7 +18,7 @@ pub enum HeaderRead {
 
 // The header's fields, or the first of the rules 1 to 6 that it breaks.
 pub fn read_header(file: &[u8]) -> HeaderRead
-    ensures { λ r. ⌜ headerIn r ≡ headerFrom (now (file .entry)) ⌝ }
+    ensures { λ r. ⌜ headerReadOf r ≡ headerFrom (now (file .entry)) ⌝ }
 {
     let version = byte_at(file, 4);
     if file.len() < header_size(version) {

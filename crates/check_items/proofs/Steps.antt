@@ -11,7 +11,7 @@ use Rattle.base_format.specs.Checked.{Checked, ok, refused, mapped, _>>=_}
 use Rattle.base_format.specs.Operation.{Setting, Item, itemAt}
 use Rattle.base_format.specs.Stream.{operationsFrom}
 use Rattle.base_format.specs.Writes.{targetNumber, anySi22}
-use Rattle.check_items.specs.Walk.{stepped, walkedWith, walked}
+use Rattle.check_items.specs.Walk.{walkStep, walkedWith, walked}
 
 or-assoc : (a b c : Bool) → (a || (b || c)) ≡ ((a || b) || c)
 or-assoc true b c = refl
@@ -37,7 +37,7 @@ joined seen (ok i) rest = go (rest (i .next))
 
 -- one item, then the others
 pub walk-step : (seen : Bool) (setting : Setting) (file : List ℕ) (limit count at : ℕ) → 0 < count
-    → walkedWith seen setting file limit count at ≡ (stepped seen setting file limit at >>= λ (r : ℕ × Bool). walkedWith (r .1) setting file limit (count - 1) (r .0))
+    → walkedWith seen setting file limit count at ≡ (walkStep seen setting file limit at >>= λ (r : ℕ × Bool). walkedWith (r .1) setting file limit (count - 1) (r .0))
 unfolding operationsFrom
 walk-step seen setting file limit zero at h = absurd (not-suc-le-zero h)
 walk-step seen setting file limit (suc count) at h =

@@ -10,8 +10,8 @@ use Rattle.base_format.specs.Stream.{operationsFrom}
 use Rattle.base_format.specs.Writes.{targetNumber, anySi22}
 
 -- the place behind one item, and whether it has target 11, or one before it had
-abbrev pub stepped : (seen : Bool) → Setting → List ℕ → (limit at : ℕ) → Checked (ℕ × Bool)
-stepped seen setting file limit at =
+abbrev pub walkStep : (seen : Bool) → Setting → List ℕ → (limit at : ℕ) → Checked (ℕ × Bool)
+walkStep seen setting file limit at =
     mapped (λ (item : Item). (item .next, seen || eqb (targetNumber (item .operation)) 11)) (itemAt setting file limit at)
 
 -- where so many operations end, and whether one of them has target 11, or one before them had

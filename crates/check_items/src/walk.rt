@@ -12,7 +12,7 @@ ghost use lib.Dec.{eqb};
 ghost use Rattle.base_format.specs.Operation.{settingOf};
 ghost use Rattle.base_format.specs.Writes.{targetNumber};
 ghost use Rattle.check_items.specs.Answer.{walkedOf};
-ghost use Rattle.check_items.specs.Walk.{stepped, walked};
+ghost use Rattle.check_items.specs.Walk.{walkStep, walked};
 
 // The place behind the last item and whether one has target 11, or a refusal.
 pub enum Walked {
@@ -39,7 +39,7 @@ fn step(
     at: usize,
     seen: bool,
 ) -> Walked
-    ensures { λ r. ⌜ walkedOf r ≡ stepped seen (settingOf (now (file .entry)) header cards) (now (file .entry)) limit at ⌝ }
+    ensures { λ r. ⌜ walkedOf r ≡ walkStep seen (settingOf (now (file .entry)) header cards) (now (file .entry)) limit at ⌝ }
 {
     match read_item(file, header, cards, limit, at) {
         OperationRead::Found { operation, next } => Walked::End {

@@ -1,1 +1,1 @@
-pub mod TableRow
+pub mod Tables

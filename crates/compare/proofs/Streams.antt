@@ -19,7 +19,7 @@ use Rattle.base_format.specs.Stream.{Stream, framesFrom, openingLimit}
 use Rattle.base_format.specs.Writes.{upward, writesWith, writesOf, writesOfAll, openingWrites}
 use Rattle.base_format.proofs.Accepted.{Accepted, settingFor}
 use Rattle.base_format.proofs.Checks.{ok-is}
-use Rattle.base_format.proofs.Same.{same-count}
+use Rattle.base_format.proofs.Equal.{same-count}
 use Rattle.base_format.proofs.Steps.{frame-step}
 use Rattle.base_master.specs.Places.{recordsAt, framesAt, behindFrame}
 use Rattle.base_master.proofs.Master.{IsMaster}

@@ -15,7 +15,7 @@ use Rattle.base_format.specs.Bytes.{byte}
 use Rattle.base_format.specs.Compare.{played}
 use Rattle.base_format.specs.Size.{recordSize}
 use Rattle.base_format.specs.Writes.{write, upward}
-use Rattle.base_format.proofs.Same.{played-append}
+use Rattle.base_format.proofs.Equal.{played-append}
 use Rattle.compare_segment.specs.Segments.{spread, segmentWrites, segmentAt, operationWrites, recordWrite, recordWrites}
 
 -- the number before one that is not 0

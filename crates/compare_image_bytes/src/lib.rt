@@ -39,7 +39,7 @@ pub fn copy(image: &mut [u8], address: usize, count: usize, file: &[u8], source:
 }
 
 // A memory that nothing was written to.
-pub fn begin(image: &mut [u8])
+pub fn begin_image(image: &mut [u8])
     ensures { λ _. ⌜ now (image .exit) ≡ replicate (length (now (image .entry))) 0x80 ⌝ }
 {
     fill(image, 0, image.len(), 0x80);

@@ -3,7 +3,7 @@ use base_format::MASTER_HEADER_SIZE;
 use base_format::RECORD_SIZE;
 use bytes_operation::decode_record;
 use bytes_read::item_bytes;
-use compare_image_bytes::begin;
+use compare_image_bytes::begin_image;
 ghost use mathlib.Core.Path.{_≡_};
 ghost use mathlib.Core.List.{[], _∷_};
 ghost use Prim.Native.Nat.{_≤_};
@@ -45,6 +45,6 @@ fn play_records(file: &[u8], start: usize, count: u32, image: &mut [u8])
 pub fn draw_master(master: &[u8], records: u32, image: &mut [u8])
     ensures { λ _. ⌜ now (image .exit) ≡ played (replicate (length (now (image .entry))) 0x80) (recordWrites (now (master .entry)) records masterHeaderSize) ⌝ }
 {
-    begin(image);
+    begin_image(image);
     play_records(master, MASTER_HEADER_SIZE, records, image);
 }

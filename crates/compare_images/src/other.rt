@@ -1,7 +1,7 @@
 // The memory image of a version 2 file: begun at 0x80, and given the PCM writes of its opening.
 use bytes_read::byte_at;
 use bytes_read::smaller;
-use compare_image_bytes::begin;
+use compare_image_bytes::begin_image;
 use compare_image_bytes::copy;
 use compare_image_bytes::fill;
 use compare_segment::Segment;
@@ -54,6 +54,6 @@ pub fn draw_other(other: &[u8], directory: u32, start: u32, operations: u32, ima
     ensures { λ _. ⌜ now (image .exit) ≡ played (replicate (length (now (image .entry))) 0x80) (operationWrites (now (other .entry)) directory operations start) ⌝ }
 {
     let from = start as usize;
-    begin(image);
+    begin_image(image);
     play_operations(other, directory, from, operations, image);
 }

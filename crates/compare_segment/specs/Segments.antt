@@ -20,12 +20,12 @@ spread file target address source step zero = []
 spread file target address source step (suc count) =
     write target address (byte file source) ∷ spread file target (address + 1) (source + step) step count
 
-abbrev pub stepOf : (copied : Bool) → ℕ
-stepOf true = 1
-stepOf false = 0
+abbrev pub sourceStep : (copied : Bool) → ℕ
+sourceStep true = 1
+sourceStep false = 0
 
 abbrev pub segmentWrites : List ℕ → Segment → List WriteRecord
-segmentWrites file segment = spread file (segment .target) (segment .address) (segment .source) (stepOf (segment .copied)) (segment .count)
+segmentWrites file segment = spread file (segment .target) (segment .address) (segment .source) (sourceStep (segment .copied)) (segment .count)
 
 -- where the bytes of a COPY stand
 abbrev pub copySource : List ℕ → (directory : ℕ) → Decoded → ℕ

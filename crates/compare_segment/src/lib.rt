@@ -6,7 +6,7 @@ use bytes_read::item_bytes;
 use check_pools::read_pool;
 ghost use mathlib.Core.Path.{_≡_};
 ghost use Prim.Native.Nat.{_≤_};
-ghost use Rattle.compare_segment.specs.Segments.{stepOf, copySource, segmentAt};
+ghost use Rattle.compare_segment.specs.Segments.{sourceStep, copySource, segmentAt};
 
 // `count` writes to a target, upward from an address, and the place behind the operation. The first value stands at `source`; where
 // the values are copied each next one stands behind it, and else it is the value of all.
@@ -29,7 +29,7 @@ fn copy_source(file: &[u8], directory: u32, item: Decoded) -> usize
 
 // How far the next value of a segment stands behind a value.
 pub fn step_of(copied: bool) -> usize
-    ensures { λ r. ⌜ (r ≡ stepOf copied) × (r ≤ 1) ⌝ }
+    ensures { λ r. ⌜ (r ≡ sourceStep copied) × (r ≤ 1) ⌝ }
 {
     if copied { 1 } else { 0 }
 }

@@ -15,8 +15,8 @@ use Rattle.compare_writes.specs.declared.run.Run.{Run}
 use Rattle.compare_writes.specs.declared.run.Run.the-variants as run
 use Rattle.compare_writes.specs.declared.part.PartMatch.{PartMatch}
 use Rattle.compare_writes.specs.declared.part.PartMatch.the-variants as part
-use Rattle.compare_segment.specs.Segments.{stepOf, spread, segmentAt, segmentWrites, operationWrites, operationsStop, recordWrite, recordWrites}
-use Rattle.compare_writes.specs.Match.{keeps, kept, matched, matchedSegment, matchedOperation, samePart, matchedPart, behind, sameFramesAt}
+use Rattle.compare_segment.specs.Segments.{sourceStep, spread, segmentAt, segmentWrites, operationWrites, operationsStop, recordWrite, recordWrites}
+use Rattle.compare_writes.specs.Match.{keeps, kept, matched, matchedSegment, matchedOperation, samePart, matchedPart, ifBehind, sameFramesAt}
 
 -- the number before one that is not 0
 less : (n : ℕ) → suc n - 1 ≡ n
@@ -83,7 +83,7 @@ module _ (all : Bool) (master other : List ℕ) where
         → matched all master other left at target address source step count ≡ matched all master other (left - 1) (at + recordSize) target address source step count
     matched-skip k = matched-step left at target address source step count some some′ ∙ rw k
 
-  -- the records behind are the last ones
+  -- the records ifBehind are the last ones
   pub matched-place : (left at target address source step count at′ left′ : ℕ)
       → matched all master other left at target address source step count ≡ run.Behind at′ left′ → at′ + left′ * recordSize ≡ at + left * recordSize
   unfolding matched
@@ -108,17 +108,17 @@ module _ (all : Bool) (master other : List ℕ) where
       go true false one two e = absurd (let z : _≡_ {A = ℕ} 0 1 = cc in omega arith)
       go false s one two e = omega (arith, two e)
 
-  -- records behind a match against the writes behind a segment
+  -- records ifBehind a match against the writes ifBehind a segment
   abbrev rest-same : (rest : List WriteRecord) → ℕ → ℕ → Bool
   rest-same rest left at = sameWrites (kept all (recordWrites master left at)) (kept all rest)
 
   match-kept : (r w : WriteRecord) (rs ws : List WriteRecord) (k : Bool) (a b : Run) (next : ℕ → ℕ → Bool) → keeps all (w .target) ≡ true → keeps all (r .target) ≡ k
-      → sameWrites (kept all rs) (kept all ws) ≡ behind a next false → sameWrites (kept all rs) (kept all (w ∷ ws)) ≡ behind b next false
-      → sameWrites (kept all (r ∷ rs)) (kept all (w ∷ ws)) ≡ behind (cond k (cond (sameWrite r w) a run.Differs) b) next false
+      → sameWrites (kept all rs) (kept all ws) ≡ ifBehind a next false → sameWrites (kept all rs) (kept all (w ∷ ws)) ≡ ifBehind b next false
+      → sameWrites (kept all (r ∷ rs)) (kept all (w ∷ ws)) ≡ ifBehind (cond k (cond (sameWrite r w) a run.Differs) b) next false
   unfolding sameWrites
   match-kept r w rs ws true a b next e f one two = rw (kept-cons all r rs, kept-cons all w ws, e, f) (go (sameWrite r w) _ a one)
     where
-      go : (s t : Bool) (a : Run) → t ≡ behind a next false → (s && t) ≡ behind (cond s a run.Differs) next false
+      go : (s t : Bool) (a : Run) → t ≡ ifBehind a next false → (s && t) ≡ ifBehind (cond s a run.Differs) next false
       go true t a one = one
       go false t a one = refl
   match-kept r w rs ws false a b next e f one two = rw (kept-cons all r rs, f) two
@@ -129,7 +129,7 @@ module _ (all : Bool) (master other : List ℕ) where
 
   pub match-is : (rest : List WriteRecord) (target : ℕ) → keeps all target ≡ true → (left at address source step count : ℕ)
       → sameWrites (kept all (recordWrites master left at)) (kept all (spread other target address source step count ++ rest))
-      ≡ behind (matched all master other left at target address source step count) (rest-same rest) false
+      ≡ ifBehind (matched all master other left at target address source step count) (rest-same rest) false
   unfolding spread recordWrites matched
   match-is rest target e zero at address source step zero = refl
   match-is rest target e (suc left) at address source step zero = refl
@@ -143,17 +143,17 @@ module _ (all : Bool) (master other : List ℕ) where
 
 -- RECORDS AGAINST OPERATIONS
 
--- behind an operation
+-- ifBehind an operation
 operation-is : (all : Bool) (master other : List ℕ) (rest : List WriteRecord) (segment : Segment) (left at : ℕ)
-    → rest-same all master other (segmentWrites other segment ++ rest) left at ≡ behind (matchedOperation all master other left at segment) (rest-same all master other rest) false
+    → rest-same all master other (segmentWrites other segment ++ rest) left at ≡ ifBehind (matchedOperation all master other left at segment) (rest-same all master other rest) false
 unfolding matchedOperation
 operation-is all master other rest segment left at = go (keeps all (segment .target)) refl
   where
     go : (k : Bool) → keeps all (segment .target) ≡ k
         → rest-same all master other (segmentWrites other segment ++ rest) left at
-        ≡ behind (cond k (matchedSegment all master other left at segment) (run.Behind at left)) (rest-same all master other rest) false
-    go true e = match-is all master other rest (segment .target) e left at (segment .address) (segment .source) (stepOf (segment .copied)) (segment .count)
-    go false e = rw (kept-rest all other (segment .target) (segment .address) (segment .source) (stepOf (segment .copied)) (segment .count) rest e)
+        ≡ ifBehind (cond k (matchedSegment all master other left at segment) (run.Behind at left)) (rest-same all master other rest) false
+    go true e = match-is all master other rest (segment .target) e left at (segment .address) (segment .source) (sourceStep (segment .copied)) (segment .count)
+    go false e = rw (kept-rest all other (segment .target) (segment .address) (segment .source) (sourceStep (segment .copied)) (segment .count) rest e)
 
 pub operation-place : (all : Bool) (master other : List ℕ) (segment : Segment) (left at at′ left′ : ℕ)
     → matchedOperation all master other left at segment ≡ run.Behind at′ left′ → at′ + left′ * recordSize ≡ at + left * recordSize
@@ -161,19 +161,19 @@ unfolding matchedOperation
 operation-place all master other segment left at at′ left′ = go (keeps all (segment .target))
   where
     go : (k : Bool) → cond k (matchedSegment all master other left at segment) (run.Behind at left) ≡ run.Behind at′ left′ → at′ + left′ * recordSize ≡ at + left * recordSize
-    go true e = matched-place all master other left at (segment .target) (segment .address) (segment .source) (stepOf (segment .copied)) (segment .count) at′ left′ e
+    go true e = matched-place all master other left at (segment .target) (segment .address) (segment .source) (sourceStep (segment .copied)) (segment .count) at′ left′ e
     go false e =
         let p : at ≡ at′ = cc in
         let q : left ≡ left′ = cc in
         rw (← p, ← q)
 
-chosen : (r : Run) (same : ℕ → ℕ → Bool) (stop : PartMatch) → cond (behind r same false) stop part.Differs ≡ behind r (λ (l a : ℕ). cond (same l a) stop part.Differs) part.Differs
+chosen : (r : Run) (same : ℕ → ℕ → Bool) (stop : PartMatch) → cond (ifBehind r same false) stop part.Differs ≡ ifBehind r (λ (l a : ℕ). cond (same l a) stop part.Differs) part.Differs
 chosen (run.Behind at left) same stop = refl
 chosen run.Differs same stop = refl
 
 pub part-step : (all : Bool) (master other : List ℕ) (directory left at count from : ℕ) → 0 < count
     → matchedPart all master other directory left at count from
-    ≡ behind (matchedOperation all master other left at (segmentAt other directory from))
+    ≡ ifBehind (matchedOperation all master other left at (segmentAt other directory from))
     (λ (l a : ℕ). matchedPart all master other directory l a (count - 1) (segmentAt other directory from .next)) part.Differs
 unfolding matchedPart samePart operationWrites operationsStop
 part-step all master other directory left at zero from h = absurd (not-suc-le-zero h)

@@ -13,7 +13,7 @@ use Rattle.compare_writes.specs.declared.run.Run.{Run}
 use Rattle.compare_writes.specs.declared.run.Run.the-variants as run
 use Rattle.compare_writes.specs.declared.part.PartMatch.{PartMatch}
 use Rattle.compare_writes.specs.declared.part.PartMatch.the-variants as part
-use Rattle.compare_segment.specs.Segments.{stepOf, operationWrites, operationsStop, recordWrite, recordWrites}
+use Rattle.compare_segment.specs.Segments.{sourceStep, operationWrites, operationsStop, recordWrite, recordWrites}
 
 -- whether a write to a target counts
 abbrev pub keeps : (all : Bool) → (target : ℕ) → Bool
@@ -23,7 +23,7 @@ abbrev pub kept : (all : Bool) → List WriteRecord → List WriteRecord
 kept true writes = writes
 kept false writes = coreWrites writes
 
--- so many records from a place against so many writes of a segment: the records behind them, or that they differ
+-- so many records from a place against so many writes of a segment: the records ifBehind them, or that they differ
 unfoldable pub matched : (all : Bool) → (master other : List ℕ) → (left at target address source step count : ℕ) → Run
 matched all master other left at target address source step zero = run.Behind at left
 matched all master other zero at target address source step (suc count) = run.Differs
@@ -36,7 +36,7 @@ matched all master other (suc left) at target address source step (suc count) =
 
 abbrev pub matchedSegment : (all : Bool) → (master other : List ℕ) → (left at : ℕ) → Segment → Run
 matchedSegment all master other left at segment =
-    matched all master other left at (segment .target) (segment .address) (segment .source) (stepOf (segment .copied)) (segment .count)
+    matched all master other left at (segment .target) (segment .address) (segment .source) (sourceStep (segment .copied)) (segment .count)
 
 -- the same for a segment that may not count
 unfoldable pub matchedOperation : (all : Bool) → (master other : List ℕ) → (left at : ℕ) → Segment → Run
@@ -52,10 +52,10 @@ unfoldable pub matchedPart : (all : Bool) → (master other : List ℕ) → (dir
 matchedPart all master other directory left at count from =
     cond (samePart all master other directory left at count from) (part.Same (operationsStop other directory count from)) part.Differs
 
--- what the records behind a match are compared with
-abbrev pub behind : {A : Type 0} → Run → (ℕ → ℕ → A) → A → A
-behind (run.Behind at left) next none = next left at
-behind run.Differs next none = none
+-- what the records ifBehind a match are compared with
+abbrev pub ifBehind : {A : Type 0} → Run → (ℕ → ℕ → A) → A → A
+ifBehind (run.Behind at left) next none = next left at
+ifBehind run.Differs next none = none
 
 -- so many frames of both
 unfoldable pub sameFramesAt : (master other : List ℕ) → (directory count at from : ℕ) → Bool

@@ -13,7 +13,7 @@ use Rattle.play_fast_empty.specs.declared.EmptyStep.{EmptyStep}
 use Rattle.play_fast_empty.specs.Empty.{emptyOf, emptied}
 use Rattle.play_fast_empty.proofs.Emptied.{empty-call}
 use Rattle.play_fast_part.specs.declared.Step.{Step}
-use Rattle.play_fast_part.specs.Current.{currentOf}
+use Rattle.play_fast_part.specs.PlayingPart.{playingPartOf}
 use Rattle.play_fast_part.specs.Step.{stepped}
 use Rattle.play_fast.specs.Step.{stepOf}
 use Rattle.play_fast.proofs.Stepped.{step-kind, step-call}
@@ -37,7 +37,7 @@ pub step-told : (state : StreamPlayer) (file : List ℕ) (run : List WriteRecord
 step-told state file run step zs e taken wrote =
     let is = step-call state file (length run) step e taken in
     let kind = step-kind file (state .header) (state .cards) (state .progress) (length run) step e taken in
-    let c = currentOf file (state .header) (state .cards .count) (state .progress) in (
+    let c = playingPartOf file (state .header) (state .cards .count) (state .progress) in (
       rw is (ap (λ (n : ℕ). record { number = 0; place = 0; count = n; complete = step .complete }) (step-long file (state .header) (state .cards) c step (length run) kind)),
       rw is,
       rw is (wrote ∙ step-stored file (state .header) (state .cards) c step run kind),

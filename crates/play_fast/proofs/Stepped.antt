@@ -12,11 +12,11 @@ use Rattle.base_format.specs.Card.{cardsOf}
 use Rattle.base_format.specs.Checked.{Checked, ok}
 use Rattle.base_format.specs.Player.{Played, call}
 use Rattle.base_format.specs.State.{moved}
-use Rattle.play_fast_part.specs.declared.Current.{Current}
+use Rattle.play_fast_part.specs.declared.PlayingPart.{PlayingPart}
 use Rattle.play_fast_part.specs.declared.Step.{Step}
-use Rattle.play_fast_part.specs.Current.{currentOf}
+use Rattle.play_fast_part.specs.PlayingPart.{playingPartOf}
 use Rattle.play_fast_part.specs.Step.{stepped}
-use Rattle.play_fast_part.proofs.Going.{current-bounds}
+use Rattle.play_fast_part.proofs.Going.{playing-part-bounds}
 use Rattle.play_fast_plain.specs.Plain.{plainWrites}
 use Rattle.play_fast_plain_step.specs.PlainStep.{plainStep}
 use Rattle.play_fast_plain_step.proofs.Called.{plain-call}
@@ -27,7 +27,7 @@ use Rattle.play_fast_fill_step.proofs.Called.{Filling, fill-filling, fill-call}
 use Rattle.play_fast.specs.Step.{stepOf}
 
 -- what is stored by it
-pub data Kind (file : List ℕ) (header : Header) (cards : CardTable) (c : Current) (room : ℕ) (step : Step) : Type 0 where
+pub data Kind (file : List ℕ) (header : Header) (cards : CardTable) (c : PlayingPart) (room : ℕ) (step : Step) : Type 0 where
   plainly : Plainly file (header .version) room step → Kind file header cards c room step
   filling : Filling file (header .version) (cardsOf cards) c room step → Kind file header cards c room step
 
@@ -43,22 +43,22 @@ answerOf state file step =
 -- THE KIND
 
 module _ (file : List ℕ) (header : Header) (cards : CardTable) (p : Progress) (room : ℕ) (step : Step) where
-  abbrev c : Current
-  c = currentOf file header (cards .count) p
+  abbrev c : PlayingPart
+  c = playingPartOf file header (cards .count) p
 
   pub step-kind : step ≡ stepOf file header cards p room → step .taken ≡ true → Kind file header cards c room step
   unfolding stepOf
   step-kind e taken = go (plainStep file (header .version) c room .taken) e
     where
       go : (plain : Bool) → step ≡ cond plain (plainStep file (header .version) c room) (fillStep file (header .version) (cardsOf cards) c room) → Kind file header cards c room step
-      go true h = plainly (plain-plainly file (header .version) room c step (current-bounds file header p c (cards .count) refl .0) h taken)
+      go true h = plainly (plain-plainly file (header .version) room c step (playing-part-bounds file header p c (cards .count) refl .0) h taken)
       go false h = filling (fill-filling file (header .version) (cardsOf cards) c room step h taken)
 
 -- THE CALL
 
 module _ (state : StreamPlayer) (file : List ℕ) (room : ℕ) (step : Step) where
-  abbrev on : Current
-  on = currentOf file (state .header) (state .cards .count) (state .progress)
+  abbrev on : PlayingPart
+  on = playingPartOf file (state .header) (state .cards .count) (state .progress)
 
   abbrev version : ℕ
   version = state .header .version
@@ -75,7 +75,7 @@ module _ (state : StreamPlayer) (file : List ℕ) (room : ℕ) (step : Step) whe
     where
       go : (plain : Bool) → step ≡ cond plain (plainStep file version on room) (fillStep file version (cardsOf (state .cards)) on room) → call state file room ≡ ok (answerOf state file step)
       go true h =
-          let none = plain-plainly file version room on step (current-bounds file (state .header) (state .progress) on (state .cards .count) refl .0) h taken .no-others in
+          let none = plain-plainly file version room on step (playing-part-bounds file (state .header) (state .progress) on (state .cards .count) refl .0) h taken .no-others in
           answers (plainWrites version file (step .plain) (step .from)) (rw none (sym (append-nil (plainWrites version file (step .plain) (step .from))))) (plain-call state file room on step refl h taken)
       go false h =
           let none = fill-filling file version (cardsOf (state .cards)) on room step h taken .no-plain in

@@ -17,18 +17,18 @@ use Rattle.base_format.specs.Player.{Gathered, wavesBy, placed, bytesAt, gather
 use Rattle.base_format.specs.Writes.{upward, writesWith}
 use Rattle.base_format.proofs.Checks.{and-true}
 use Rattle.base_format.proofs.Writes.{length-upward}
-use Rattle.play_laws.proofs.Paced.{gathered-step}
+use Rattle.play_laws.proofs.PlannedOperations.{gathered-step}
 use Rattle.bytes_operation.specs.declared.decode.Decoded.{Decoded}
 use Rattle.play_fast_fill_records.specs.Records.{fillPlace, fillRecords}
 use Rattle.play_fast_fill_records.proofs.Operation.{drop-upward, take-upward, operation-records, operation-after}
 use Rattle.play_fast_fill_records.proofs.Records.{records-join}
-use Rattle.play_fast_fill.specs.declared.FillPace.{FillPace}
-use Rattle.play_fast_fill.specs.Fills.{stoppedAt, countAt, fillsFrom, fillsPaced}
+use Rattle.play_fast_fill.specs.declared.FillsTaken.{FillsTaken}
+use Rattle.play_fast_fill.specs.Fills.{stoppedAt, countAt, fillsFrom, fillsTaken}
 use Rattle.play_fast_fill.proofs.Items.{versionOf, widthOf, startsIn, endsIn, itemOn, Used, used}
 use Rattle.play_fast_fill.proofs.Steps.{fills-end, fills-full, fills-none, fills-step, from-fewer}
 
 -- what a call gathers, where the walk stops
-abbrev pub taken : StreamPlayer → List ℕ → (left room : ℕ) → Progress → FillPace → Gathered
+abbrev pub taken : StreamPlayer → List ℕ → (left room : ℕ) → Progress → FillsTaken → Gathered
 taken state file left room p r =
     record {
       records = fillRecords file (versionOf state) (room - r .room) (fillPlace (p .cursor) (p .«write_index»));
@@ -117,7 +117,7 @@ module _ (state : StreamPlayer) (file : List ℕ) (limit end : ℕ) (pooled : eq
 
   -- SO MANY OPERATIONS
 
-  abbrev walk : (left room cursor writes : ℕ) → FillPace
+  abbrev walk : (left room cursor writes : ℕ) → FillsTaken
   walk left room cursor writes = fillsFrom file (widthOf state) (startsIn state) (endsIn state) end left room cursor writes
 
   abbrev count : ℕ → ℕ
@@ -160,7 +160,7 @@ module _ (state : StreamPlayer) (file : List ℕ) (limit end : ℕ) (pooled : eq
       behind : Progress
       behind = placed p onto (p .«operation_index» + 1) 0 (p .«wave_sources»)
 
-      r : FillPace
+      r : FillsTaken
       r = walk left (suc others - rest) onto 0
 
       -- the operations behind the first
@@ -196,14 +196,14 @@ module _ (state : StreamPlayer) (file : List ℕ) (limit end : ℕ) (pooled : eq
           first later (u .0) (u .1) (u .2) some (ltb (suc others) rest) refl (fills-step file (widthOf state) (startsIn state) (endsIn state) end (suc left) (suc others) (p .cursor) made (omega arith) (omega arith) more ∙ rw one)
 
 -- with the ranges of a version and its cards, and the same limit or a later one
-pub fills-gathered : (state : StreamPlayer) (file : List ℕ) (limit later left room cursor writes : ℕ) (p : Progress) (r : FillPace) → limit ≤ later → limit ≤ length file
-    → p .cursor ≡ cursor → p .«write_index» ≡ writes → r ≡ fillsPaced file (versionOf state) (cardsOf (state .cards)) limit left room cursor writes → r .taken ≡ true
+pub fills-gathered : (state : StreamPlayer) (file : List ℕ) (limit later left room cursor writes : ℕ) (p : Progress) (r : FillsTaken) → limit ≤ later → limit ≤ length file
+    → p .cursor ≡ cursor → p .«write_index» ≡ writes → r ≡ fillsTaken file (versionOf state) (cardsOf (state .cards)) limit left room cursor writes → r .taken ≡ true
     → gathered state file later left room p ≡ ok (taken state file left room p r)
-unfolding fillsPaced
+unfolding fillsTaken
 fills-gathered state file limit later left room cursor writes p r most inside at done is passed =
     rw is (go (leb 2 (versionOf state) && leb (versionOf state) 4) refl (rw is at passed))
   where
-    by : Bool → FillPace
+    by : Bool → FillsTaken
     by b = cond b (fillsFrom file (widthOf state) (startsIn state) (endsIn state) limit left room cursor writes) (stoppedAt false cursor left room writes)
 
     go : (b : Bool) → (leb 2 (versionOf state) && leb (versionOf state) 4) ≡ b → by b .taken ≡ true → gathered state file later left room p ≡ ok (taken state file left room p (by b))

@@ -11,11 +11,11 @@ use Rattle.base_format.specs.declared.card.CardRequirement.{CardRequirement}
 use Rattle.base_format.specs.Operation.{addressWidth}
 use Rattle.play_fast_ranges.specs.Ranges.{startsOf, endsOf}
 use Rattle.bytes_operation.specs.Decoded.{decodedAt}
-use Rattle.play_fast_fill.specs.declared.FillPace.{FillPace}
-use Rattle.play_fast_fill.specs.Fills.{stoppedAt, countAt, fillsFrom, fillsPaced}
+use Rattle.play_fast_fill.specs.declared.FillsTaken.{FillsTaken}
+use Rattle.play_fast_fill.specs.Fills.{stoppedAt, countAt, fillsFrom, fillsTaken}
 
 -- no more operations and no more room are left than there were
-abbrev pub Fewer : (left room : ℕ) → FillPace → Type 0
+abbrev pub Fewer : (left room : ℕ) → FillsTaken → Type 0
 Fewer left room r = (r .left ≤ left) × (r .room ≤ room)
 
 module _ (file : List ℕ) (width : ℕ) (starts ends : List ℕ) (limit : ℕ) where
@@ -64,15 +64,15 @@ module _ (file : List ℕ) (width : ℕ) (starts ends : List ℕ) (limit : ℕ) 
       let rest : ℕ = countAt file width starts ends limit cursor - writes in
       go (eqb room 0) (leb (countAt file width starts ends limit cursor) writes) (ltb room rest) rest _ (from-fewer left (room - rest) (cursor + decodedAt width file cursor .size) 0)
     where
-      go : (full none short : Bool) (rest : ℕ) (onward : FillPace) → Fewer left (room - rest) onward
+      go : (full none short : Bool) (rest : ℕ) (onward : FillsTaken) → Fewer left (room - rest) onward
           → Fewer (suc left) room (cond full (stoppedAt true cursor (suc left) room writes) (cond none (stoppedAt false cursor (suc left) room writes) (cond short (stoppedAt true cursor (suc left) 0 (writes + room)) onward)))
       go true none short rest onward f = (omega arith, omega arith)
       go false true short rest onward f = (omega arith, omega arith)
       go false false true rest onward f = (omega arith, omega arith)
       go false false false rest onward f = (omega (arith, f .0), omega (arith, f .1))
 
-pub fills-fewer : (file : List ℕ) (version : ℕ) (cards : List CardRequirement) (limit left room cursor writes : ℕ) (r : FillPace) → r ≡ fillsPaced file version cards limit left room cursor writes → Fewer left room r
-unfolding fillsPaced
+pub fills-fewer : (file : List ℕ) (version : ℕ) (cards : List CardRequirement) (limit left room cursor writes : ℕ) (r : FillsTaken) → r ≡ fillsTaken file version cards limit left room cursor writes → Fewer left room r
+unfolding fillsTaken
 fills-fewer file version cards limit left room cursor writes r is = rw is (go (leb 2 version && leb version 4))
   where
     go : (b : Bool) → Fewer left room (cond b (fillsFrom file (addressWidth version) (startsOf version cards) (endsOf version cards) limit left room cursor writes) (stoppedAt false cursor left room writes))

@@ -11,10 +11,10 @@ use Rattle.check_fast_rules.specs.Quick.{outOfBulk}
 use Rattle.play_fast_ranges.specs.Ranges.{startsOf, endsOf}
 use Rattle.bytes_operation.specs.declared.decode.Decoded.{Decoded}
 use Rattle.bytes_operation.specs.Decoded.{decodedAt}
-use Rattle.play_fast_fill.specs.declared.FillPace.{FillPace}
+use Rattle.play_fast_fill.specs.declared.FillsTaken.{FillsTaken}
 
 -- where the walk stops
-abbrev pub stoppedAt : (taken : Bool) → (cursor left room writes : ℕ) → FillPace
+abbrev pub stoppedAt : (taken : Bool) → (cursor left room writes : ℕ) → FillsTaken
 stoppedAt taken cursor left room writes = record { taken = taken; cursor = cursor; left = left; room = room; writes = writes }
 
 -- how many writes an operation makes if it is a WRITE or a FILL that the ranges allow, else 0
@@ -31,7 +31,7 @@ countAt file width starts ends limit at = cond (ltb limit (at + operationMost)) 
 
 -- so many operations from a cursor, for as many writes as there is room for. Of the first one so many writes are made: where no other
 -- is left of it, it is not taken
-unfoldable pub fillsFrom : List ℕ → (width : ℕ) → (starts ends : List ℕ) → (limit left room cursor writes : ℕ) → FillPace
+unfoldable pub fillsFrom : List ℕ → (width : ℕ) → (starts ends : List ℕ) → (limit left room cursor writes : ℕ) → FillsTaken
 fillsFrom file width starts ends limit zero room cursor writes = stoppedAt true cursor 0 room writes
 fillsFrom file width starts ends limit (suc left) room cursor writes =
     let count = countAt file width starts ends limit cursor in
@@ -41,8 +41,8 @@ fillsFrom file width starts ends limit (suc left) room cursor writes =
     (fillsFrom file width starts ends limit left (room - (count - writes)) (cursor + decodedAt width file cursor .size) 0)))
 
 -- with the ranges of a version and its cards. Version 1 has records, and is not taken
-unfoldable pub fillsPaced : List ℕ → (version : ℕ) → List CardRequirement → (limit left room cursor writes : ℕ) → FillPace
-fillsPaced file version cards limit left room cursor writes =
+unfoldable pub fillsTaken : List ℕ → (version : ℕ) → List CardRequirement → (limit left room cursor writes : ℕ) → FillsTaken
+fillsTaken file version cards limit left room cursor writes =
     cond (leb 2 version && leb version 4)
     (fillsFrom file (addressWidth version) (startsOf version cards) (endsOf version cards) limit left room cursor writes)
     (stoppedAt false cursor left room writes)

@@ -18,11 +18,11 @@ ghost use Prim.Native.Nat.{_≤_};
 ghost use lib.ListN.{length};
 ghost use Rattle.base_format.specs.Card.{cardsOf};
 ghost use Rattle.bytes_operation.specs.Decoded.{decodedOperation};
-ghost use Rattle.play_fast_fill.specs.Fills.{fillCount, stoppedAt, fillsFrom, fillsPaced};
+ghost use Rattle.play_fast_fill.specs.Fills.{fillCount, stoppedAt, fillsFrom, fillsTaken};
 
 // Where the player stops: the cursor, the operations and the room that are left, and the writes made of the operation at the cursor.
 // `taken` is false where it stops at an operation that is no WRITE or FILL, that is not allowed, or whose writes are all made.
-pub struct FillPace {
+pub struct FillsTaken {
     pub taken: bool,
     pub cursor: usize,
     pub left: u32,
@@ -30,10 +30,10 @@ pub struct FillPace {
     pub writes: u32,
 }
 
-fn stopped(taken: bool, cursor: usize, left: u32, room: usize, writes: u32) -> FillPace
+fn stopped_at(taken: bool, cursor: usize, left: u32, room: usize, writes: u32) -> FillsTaken
     ensures { λ r. ⌜ r ≡ stoppedAt taken cursor left room writes ⌝ }
 {
-    FillPace {
+    FillsTaken {
         taken: taken,
         cursor: cursor,
         left: left,
@@ -75,7 +75,7 @@ fn fills_from(
     room: usize,
     cursor: usize,
     writes: u32,
-) -> FillPace
+) -> FillsTaken
     requires { ⌜ (3 ≤ width) × (width ≤ 4) × (limit ≤ length (now file)) ⌝ }
     ensures { λ r. ⌜ r ≡ fillsFrom (now (file .entry)) width (now (starts .entry)) (now (ends .entry)) limit left room cursor writes ⌝ }
 {
@@ -85,30 +85,30 @@ fn fills_from(
     let mut done = writes;
     while 0 < others {
         if free == 0 {
-            return stopped(true, at, others, free, done);
+            return stopped_at(true, at, others, free, done);
         }
         if passes(limit, at, OPERATION_MOST) {
-            return stopped(false, at, others, free, done);
+            return stopped_at(false, at, others, free, done);
         }
         let bytes = window(file, at);
         let count = fill_count(bytes, width, starts, ends);
         if count <= done {
-            return stopped(false, at, others, free, done);
+            return stopped_at(false, at, others, free, done);
         }
         let rest = count - done;
         if free < rest as usize {
-            return stopped(true, at, others, 0, done + free as u32);
+            return stopped_at(true, at, others, 0, done + free as u32);
         }
         free -= rest as usize;
         at += fill_size_in(bytes, width);
         others -= 1;
         done = 0;
     }
-    stopped(true, at, others, free, done)
+    stopped_at(true, at, others, free, done)
 }
 
 // The operations that are left of a part, for as many writes as there is room for.
-pub fn pace_fills(
+pub fn take_fills(
     file: &[u8],
     version: u8,
     cards: CardTable,
@@ -117,15 +117,15 @@ pub fn pace_fills(
     room: usize,
     cursor: usize,
     writes: u32,
-) -> FillPace
+) -> FillsTaken
     requires { ⌜ limit ≤ length (now file) ⌝ }
-    ensures { λ r. ⌜ r ≡ fillsPaced (now (file .entry)) version (cardsOf cards) limit left room cursor writes ⌝ }
+    ensures { λ r. ⌜ r ≡ fillsTaken (now (file .entry)) version (cardsOf cards) limit left room cursor writes ⌝ }
 {
     if version < 2 {
-        return stopped(false, cursor, left, room, writes);
+        return stopped_at(false, cursor, left, room, writes);
     }
     if 4 < version {
-        return stopped(false, cursor, left, room, writes);
+        return stopped_at(false, cursor, left, room, writes);
     }
     let mut starts: [u32; RANGES] = [0; RANGES];
     let mut ends: [u64; RANGES] = [0; RANGES];

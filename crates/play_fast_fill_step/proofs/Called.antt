@@ -13,24 +13,24 @@ use Rattle.base_format.specs.Card.{cardsOf}
 use Rattle.base_format.specs.Checked.{Checked, ok}
 use Rattle.base_format.specs.Player.{placed, Gathered, Played, call}
 use Rattle.base_format.specs.State.{moved}
-use Rattle.play_fast_part.specs.declared.Current.{Current}
+use Rattle.play_fast_part.specs.declared.PlayingPart.{PlayingPart}
 use Rattle.play_fast_part.specs.declared.Step.{Step}
-use Rattle.play_fast_part.specs.Current.{currentOf, leftOf, playing}
+use Rattle.play_fast_part.specs.PlayingPart.{playingPartOf, leftOf, playing}
 use Rattle.play_fast_part.specs.Step.{noStep, stepTo, stepped}
-use Rattle.play_fast_part.proofs.Going.{current-going}
+use Rattle.play_fast_part.proofs.Going.{playing-part-going}
 use Rattle.play_fast_part.proofs.Stepped.{limitOf, going-within, taken-writes, step-played}
 use Rattle.play_fast_fill_records.specs.Records.{fillPlace, fillRecords}
-use Rattle.play_fast_fill.specs.declared.FillPace.{FillPace}
-use Rattle.play_fast_fill.specs.Fills.{fillsPaced}
+use Rattle.play_fast_fill.specs.declared.FillsTaken.{FillsTaken}
+use Rattle.play_fast_fill.specs.Fills.{fillsTaken}
 use Rattle.play_fast_fill.proofs.Gathered.{fills-gathered}
 use Rattle.play_fast_fill.proofs.Steps.{fills-fewer}
 use Rattle.play_fast_fill_step.specs.FillStep.{fillStep}
 
 -- WHERE THE PLAYER THEN IS
 
-module _ (file : List ℕ) (version : ℕ) (cards : List CardRequirement) (c : Current) (room : ℕ) where
-  abbrev reached : FillPace
-  reached = fillsPaced file version cards (c .limit) (leftOf c) room (c .at .cursor) (c .at .«write_index»)
+module _ (file : List ℕ) (version : ℕ) (cards : List CardRequirement) (c : PlayingPart) (room : ℕ) where
+  abbrev reached : FillsTaken
+  reached = fillsTaken file version cards (c .limit) (leftOf c) room (c .at .cursor) (c .at .«write_index»)
 
   -- a step that is taken goes there
   record Takes (step : Step) : Type 0 where
@@ -69,15 +69,15 @@ abbrev pub answerOf : StreamPlayer → List ℕ → Step → Played
 answerOf state file step =
     record { records = fillRecords file (state .header .version) (step .others) (fillPlace (step .from) (step .made)); complete = step .complete; next = moved state (stepped (state .progress) step) }
 
-pub fill-call : (state : StreamPlayer) (file : List ℕ) (room : ℕ) (c : Current) (step : Step) → c ≡ currentOf file (state .header) (state .cards .count) (state .progress)
+pub fill-call : (state : StreamPlayer) (file : List ℕ) (room : ℕ) (c : PlayingPart) (step : Step) → c ≡ playingPartOf file (state .header) (state .cards .count) (state .progress)
     → step ≡ fillStep file (state .header .version) (cardsOf (state .cards)) c room → step .taken ≡ true → call state file room ≡ ok (answerOf state file step)
 fill-call state file room c step e s taken =
     let version = state .header .version in
     let cards = cardsOf (state .cards) in
     let takes = fill-takes file version cards c room step s taken in
-    let r : FillPace = reached file version cards c room in
+    let r : FillsTaken = reached file version cards c room in
     let count : ℕ = room - r .room in
-    let going = current-going state file c e (takes .there) in
+    let going = playing-part-going state file c e (takes .there) in
     let q : Progress = playing (state .progress) c in
     let writes = taken-writes c (r .left) (r .cursor) (r .writes) 0 count count step (takes .is) taken in
     let fewer = fills-fewer file version cards (c .limit) (leftOf c) room (c .at .cursor) (c .at .«write_index») r refl in

@@ -1,4 +1,4 @@
--- The call of a state goes on with the part that `currentOf` says.
+-- The call of a state goes on with the part that `playingPartOf` says.
 use Prim.Native.Nat.{ℕ, _+_}
 use mathlib.Core.Bool.{Bool, true, false, cond}
 use mathlib.Core.List.{List}
@@ -16,9 +16,9 @@ use Rattle.base_format.specs.State.{partOf, partNumber, openingFrom}
 use Rattle.base_format.proofs.Checks.{cond-true, cond-false}
 use Rattle.base_format.proofs.Next.{next-unbegun, next-begun}
 use Rattle.play_belongs.proofs.Belongs.{foreign-is}
-use Rattle.play_fast_part.specs.declared.Current.{Current}
-use Rattle.play_fast_part.specs.Current.{goingOn, frameOn, currentOf, playing}
-use Rattle.play_fast_part.proofs.Found.{Way, opens, begins, opening, frame, current-found}
+use Rattle.play_fast_part.specs.declared.PlayingPart.{PlayingPart}
+use Rattle.play_fast_part.specs.PlayingPart.{goingOn, frameOn, playingPartOf, playing}
+use Rattle.play_fast_part.proofs.Found.{Way, opens, begins, opening, frame, playing-part-found}
 
 -- THE PROGRESS IN A PART THAT BEGINS
 
@@ -32,7 +32,7 @@ frame-playing file place number p on unfinished = rw (on, unfinished)
 
 module _ (state : StreamPlayer) (file : List ℕ) (room : ℕ) where
   -- the opening or a frame goes on
-  abbrev goesOn : Progress → Current → Checked Played
+  abbrev goesOn : Progress → PlayingPart → Checked Played
   goesOn p c = cond (eqb (c .at .part) (partNumber Opening)) (playOpening state file room (playing p c)) (playFrame state file room (playing p c))
 
   frame-begins : (p : Progress) (place number : ℕ) → p .initialized ≡ true → p .finished ≡ false → ltb (length file) (place + 2) ≡ false
@@ -41,7 +41,7 @@ module _ (state : StreamPlayer) (file : List ℕ) (room : ℕ) where
   frame-begins p place number on unfinished long =
       ap (λ (short : Bool). (refuse 14 place short >> ok (frameStart file place number p)) >>= playFrame state file room) long ∙ ap (playFrame state file room) (frame-playing file place number p on unfinished)
 
-  part-goes-on : (p : Progress) (c : Current) → p .finished ≡ false → Way file (state .header) p c → play state file room p (partOf (p .part)) ≡ goesOn p c
+  part-goes-on : (p : Progress) (c : PlayingPart) → p .finished ≡ false → Way file (state .header) p c → play state file room p (partOf (p .part)) ≡ goesOn p c
   unfolding play
   part-goes-on p c unfinished (opens between first e) =
       rw (between, e) (cond-true (eqb (nextPart (state .header) p .part) (partNumber Opening)) _ _ first ∙ ap (playOpening state file room) (opening-playing (state .header) (c .limit) p (next-unbegun (state .header) p first) unfinished))
@@ -54,10 +54,10 @@ module _ (state : StreamPlayer) (file : List ℕ) (room : ℕ) where
 
   -- THE CALL
 
-  pub current-call : (c : Current) → c ≡ currentOf file (state .header) (state .cards .count) (state .progress) → c .none ≡ false → call state file room ≡ as25 (goesOn (state .progress) c)
+  pub playing-part-call : (c : PlayingPart) → c ≡ playingPartOf file (state .header) (state .cards .count) (state .progress) → c .none ≡ false → call state file room ≡ as25 (goesOn (state .progress) c)
   unfolding call
-  current-call c e there =
-      let found = current-found file (state .header) (state .progress) c (state .cards .count) e there in
+  playing-part-call c e there =
+      let found = playing-part-found file (state .header) (state .progress) c (state .cards .count) e there in
       let own : belongs state file ≡ ok tt = sym (foreign-is state file) ∙ ap (refuse 25 0) (found .own) in
       cond-false (state .progress .finished) _ _ (found .unfinished)
       ∙ ap as25 (ap (λ (b : Checked (Unit {0})). b >> play state file room (state .progress) (partOf (state .progress .part))) own ∙ part-goes-on (state .progress) c (found .unfinished) (found .way))

@@ -16,21 +16,21 @@ use Rattle.base_format.specs.Player.{placed, gathered, Played, playFrame, playO
 use Rattle.base_format.specs.State.{partNumber, moved}
 use Rattle.base_format.specs.Stream.{openingLimit}
 use Rattle.base_format.proofs.Checks.{cond-true, cond-false}
-use Rattle.play_fast_part.specs.declared.Current.{Current}
+use Rattle.play_fast_part.specs.declared.PlayingPart.{PlayingPart}
 use Rattle.play_fast_part.specs.declared.Step.{Step}
-use Rattle.play_fast_part.specs.Current.{currentOf, playing}
+use Rattle.play_fast_part.specs.PlayingPart.{playingPartOf, playing}
 use Rattle.play_fast_part.specs.Step.{noStep, stepWithin, stepToEnd, stepEnding, stepTo, stepped}
-use Rattle.play_fast_part.proofs.Calls.{current-call}
-use Rattle.play_fast_part.proofs.Going.{Goes, in-opening, in-frame, Going, current-going}
+use Rattle.play_fast_part.proofs.Calls.{playing-part-call}
+use Rattle.play_fast_part.proofs.Going.{Goes, in-opening, in-frame, Going, playing-part-going}
 
 -- THE STEP
 
 -- the part goes on, or the frame ends
-pub data Taken (c : Current) (left cursor writes plain others count : ℕ) (step : Step) : Type 0 where
+pub data Taken (c : PlayingPart) (left cursor writes plain others count : ℕ) (step : Step) : Type 0 where
   within : eqb left 0 ≡ false → step ≡ stepWithin c left cursor writes plain others count → Taken c left cursor writes plain others count step
   to-end : eqb left 0 ≡ true → eqb (c .at .part) (partNumber Opening) ≡ false → step ≡ stepToEnd c cursor plain others count → Taken c left cursor writes plain others count step
 
-pub step-taken : (c : Current) (left cursor writes plain others count : ℕ) (step : Step) → step ≡ stepTo c left cursor writes plain others count → step .taken ≡ true → Taken c left cursor writes plain others count step
+pub step-taken : (c : PlayingPart) (left cursor writes plain others count : ℕ) (step : Step) → step ≡ stepTo c left cursor writes plain others count → step .taken ≡ true → Taken c left cursor writes plain others count step
 unfolding stepTo stepEnding
 step-taken c left cursor writes plain others count step e taken = go (eqb left 0) refl (eqb (c .at .part) (partNumber Opening)) refl e
   where
@@ -42,14 +42,14 @@ step-taken c left cursor writes plain others count step e taken = go (eqb left 0
     go true d false f h = to-end d f h
 
 -- what it says of its writes
-pub record Writes (c : Current) (plain others count : ℕ) (step : Step) : Type 0 where
+pub record Writes (c : PlayingPart) (plain others count : ℕ) (step : Step) : Type 0 where
   pub from : step .from ≡ c .at .cursor
   pub begun : step .made ≡ c .at .«write_index»
   pub plainly : step .plain ≡ plain
   pub otherwise : step .others ≡ others
   pub counted : step .count ≡ count
 
-pub taken-writes : (c : Current) (left cursor writes plain others count : ℕ) (step : Step) → step ≡ stepTo c left cursor writes plain others count → step .taken ≡ true → Writes c plain others count step
+pub taken-writes : (c : PlayingPart) (left cursor writes plain others count : ℕ) (step : Step) → step ≡ stepTo c left cursor writes plain others count → step .taken ≡ true → Writes c plain others count step
 taken-writes c left cursor writes plain others count step e taken = go (step-taken c left cursor writes plain others count step e taken)
   where
     go : Taken c left cursor writes plain others count step → Writes c plain others count step
@@ -59,17 +59,17 @@ taken-writes c left cursor writes plain others count step e taken = go (step-tak
 -- THE PART
 
 -- where the operations of a part end
-abbrev pub limitOf : StreamPlayer → List ℕ → Current → ℕ
+abbrev pub limitOf : StreamPlayer → List ℕ → PlayingPart → ℕ
 limitOf state file c = cond (eqb (c .at .part) (partNumber Opening)) (openingLimit (state .header) file) (length file)
 
-pub going-within : (state : StreamPlayer) (file : List ℕ) (c : Current) → Going state file c → c .limit ≤ limitOf state file c
+pub going-within : (state : StreamPlayer) (file : List ℕ) (c : PlayingPart) → Going state file c → c .limit ≤ limitOf state file c
 going-within state file c going = go (going .goes)
   where
     go : Goes state file c → c .limit ≤ limitOf state file c
     go (in-opening part limit) = rw part limit
     go (in-frame part limit on) = rw part (omega (arith, limit))
 
-module _ (state : StreamPlayer) (file : List ℕ) (room : ℕ) (c : Current) (left cursor writes plain others count : ℕ) (step : Step) where
+module _ (state : StreamPlayer) (file : List ℕ) (room : ℕ) (c : PlayingPart) (left cursor writes plain others count : ℕ) (step : Step) where
   abbrev q : Progress
   q = playing (state .progress) c
 
@@ -120,10 +120,10 @@ module _ (state : StreamPlayer) (file : List ℕ) (room : ℕ) (c : Current) (le
 
   -- THE CALL
 
-  module _ (e : c ≡ currentOf file (state .header) (state .cards .count) (state .progress)) (there : c .none ≡ false) where
+  module _ (e : c ≡ playingPartOf file (state .header) (state .cards .count) (state .progress)) (there : c .none ≡ false) where
     pub step-played : (records : List WriteRecord) (free : ℕ)
         → gathered state file (limitOf state file c) (c .at .«operation_count» - c .at .«operation_index») room q ≡ ok (record { records = records; room = free; progress = behind })
         → left ≤ c .at .«operation_count» - c .at .«operation_index» → step ≡ stepTo c left cursor writes plain others count → step .taken ≡ true
         → call state file room ≡ ok (answer records)
     step-played records free is few s taken =
-        current-call state file room c e there ∙ ap as25 (part-step records free few (current-going state file c e there) is (step-taken c left cursor writes plain others count step s taken))
+        playing-part-call state file room c e there ∙ ap as25 (part-step records free few (playing-part-going state file c e there) is (step-taken c left cursor writes plain others count step s taken))

@@ -1,2 +1,2 @@
-pub mod Current
+pub mod PlayingPart
 pub mod Step

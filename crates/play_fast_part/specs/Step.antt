@@ -6,7 +6,7 @@ use Rattle.base_format.specs.declared.player.Part.the-variants.{Opening}
 use Rattle.base_format.specs.declared.player.Position.{Position}
 use Rattle.base_format.specs.declared.player.Progress.{Progress}
 use Rattle.base_format.specs.State.{partNumber, betweenAt, onwardTo, movedTo}
-use Rattle.play_fast_part.specs.declared.Current.{Current}
+use Rattle.play_fast_part.specs.declared.PlayingPart.{PlayingPart}
 use Rattle.play_fast_part.specs.declared.Step.{Step}
 
 -- the call is not taken
@@ -38,22 +38,22 @@ stepFrom at plain others count complete to =
     }
 
 -- some of the part's operations stay
-abbrev pub stepWithin : Current → (left cursor writes plain others count : ℕ) → Step
+abbrev pub stepWithin : PlayingPart → (left cursor writes plain others count : ℕ) → Step
 stepWithin c left cursor writes plain others count =
     stepFrom (c .at) plain others count false (onwardTo (c .at) cursor (c .at .«operation_count» - left) writes)
 
 -- the frame ends
-abbrev pub stepToEnd : Current → (cursor plain others count : ℕ) → Step
+abbrev pub stepToEnd : PlayingPart → (cursor plain others count : ℕ) → Step
 stepToEnd c cursor plain others count =
     stepFrom (c .at) plain others count true (betweenAt cursor (c .at .«frame_index»))
 
 -- no operation stays; the call that ends the opening is not taken
-unfoldable pub stepEnding : Current → (cursor plain others count : ℕ) → Step
+unfoldable pub stepEnding : PlayingPart → (cursor plain others count : ℕ) → Step
 stepEnding c cursor plain others count =
     cond (eqb (c .at .part) (partNumber Opening)) noStep (stepToEnd c cursor plain others count)
 
 -- so many operations of the part stay, the next one at a cursor with so many writes made
-unfoldable pub stepTo : Current → (left cursor writes plain others count : ℕ) → Step
+unfoldable pub stepTo : PlayingPart → (left cursor writes plain others count : ℕ) → Step
 stepTo c left cursor writes plain others count =
     cond (eqb left 0) (stepEnding c cursor plain others count) (stepWithin c left cursor writes plain others count)
 

@@ -17,12 +17,12 @@ use bytes_read::read_u16;
 use play_belongs::foreign;
 ghost use mathlib.Core.Path.{_≡_};
 ghost use Prim.Native.Nat.{_+_, _^_, _≤_, _<_};
-ghost use Rattle.play_fast_part.specs.Current.{noCurrent, goingOn, underWay, frameAt, currentBetween, currentOf};
+ghost use Rattle.play_fast_part.specs.PlayingPart.{noPlayingPart, goingOn, underWay, frameBegunAt, partBetween, playingPartOf};
 ghost use Rattle.play_fast_part.specs.Step.{noStep, stepFrom, stepEnding, stepTo};
 
 // `none` where the call has no such part: the player is finished, the state belongs to another file, the closing writes come, or a
 // frame's count passes the file's end. The next operation stands at the position's cursor, and no operation goes past the limit.
-pub struct Current {
+pub struct PlayingPart {
     pub none: bool,
     pub limit: usize,
     pub at: Position,
@@ -42,10 +42,10 @@ pub struct Step {
 }
 
 // The call has no part to go on with.
-fn no_current() -> Current
-    ensures { λ r. ⌜ r ≡ noCurrent ⌝ }
+fn no_playing_part() -> PlayingPart
+    ensures { λ r. ⌜ r ≡ noPlayingPart ⌝ }
 {
-    Current {
+    PlayingPart {
         none: true,
         limit: 0,
         at: between_at(0, 0),
@@ -53,10 +53,10 @@ fn no_current() -> Current
 }
 
 // The call goes on at a position.
-fn going_on(limit: usize, at: Position) -> Current
+fn going_on(limit: usize, at: Position) -> PlayingPart
     ensures { λ r. ⌜ r ≡ goingOn limit at ⌝ }
 {
-    Current {
+    PlayingPart {
         none: false,
         limit: limit,
         at: at,
@@ -64,7 +64,7 @@ fn going_on(limit: usize, at: Position) -> Current
 }
 
 // The opening or a frame goes on. A frame is under way only behind the opening.
-fn under_way(file: &[u8], header: Header, progress: Progress) -> Current
+fn under_way(file: &[u8], header: Header, progress: Progress) -> PlayingPart
     ensures { λ r. ⌜ r ≡ underWay (now (file .entry)) header progress ⌝ }
 {
     let part = progress.part;
@@ -73,29 +73,29 @@ fn under_way(file: &[u8], header: Header, progress: Progress) -> Current
         return going_on(limit, position_of(progress));
     }
     if part != Part::FRAME {
-        return no_current();
+        return no_playing_part();
     }
     if !progress.initialized {
-        return no_current();
+        return no_playing_part();
     }
     going_on(file.len(), position_of(progress))
 }
 
 // A frame that begins, counted from 0, whose count stands at a place.
-fn frame_at(file: &[u8], place: usize, frame: u32) -> Current
+fn frame_begun_at(file: &[u8], place: usize, frame: u32) -> PlayingPart
     requires { ⌜ frame + 1 < 2 ^ 32 ⌝ }
-    ensures { λ r. ⌜ r ≡ frameAt (now (file .entry)) place frame ⌝ }
+    ensures { λ r. ⌜ r ≡ frameBegunAt (now (file .entry)) place frame ⌝ }
 {
     if passes(file.len(), place, COUNT_SIZE) {
-        return no_current();
+        return no_playing_part();
     }
     let total = read_u16(file, place) as u32;
     going_on(file.len(), frame_from(place + COUNT_SIZE, total, frame + 1))
 }
 
 // Between vsyncs the next one begins. The closing writes are not taken here.
-fn current_between(file: &[u8], header: Header, progress: Progress) -> Current
-    ensures { λ r. ⌜ r ≡ currentBetween (now (file .entry)) header progress ⌝ }
+fn part_between(file: &[u8], header: Header, progress: Progress) -> PlayingPart
+    ensures { λ r. ⌜ r ≡ partBetween (now (file .entry)) header progress ⌝ }
 {
     let next = next_part(header, progress);
     if next.part == Part::OPENING {
@@ -103,23 +103,23 @@ fn current_between(file: &[u8], header: Header, progress: Progress) -> Current
         return going_on(limit, opening_from(header));
     }
     if next.part == Part::FRAME {
-        return frame_at(file, next.place, next.frame);
+        return frame_begun_at(file, next.place, next.frame);
     }
-    no_current()
+    no_playing_part()
 }
 
 // What the call of a state with so many cards goes on with.
-pub fn current_part(file: &[u8], header: Header, cards: usize, progress: Progress) -> Current
-    ensures { λ r. ⌜ r ≡ currentOf (now (file .entry)) header cards progress ⌝ }
+pub fn playing_part(file: &[u8], header: Header, cards: usize, progress: Progress) -> PlayingPart
+    ensures { λ r. ⌜ r ≡ playingPartOf (now (file .entry)) header cards progress ⌝ }
 {
     if progress.finished {
-        return no_current();
+        return no_playing_part();
     }
     if foreign(file.len(), header, cards, progress) {
-        return no_current();
+        return no_playing_part();
     }
     if progress.part == Part::BETWEEN {
-        return current_between(file, header, progress);
+        return part_between(file, header, progress);
     }
     under_way(file, header, progress)
 }
@@ -164,10 +164,10 @@ fn step_from(
 }
 
 // The step that leaves no operation of the part. The call that ends the opening is not taken, because it goes on with frame 1.
-fn step_to_end(current: Current, cursor: usize, plain: u32, others: usize, count: usize) -> Step
-    ensures { λ r. ⌜ r ≡ stepEnding current cursor plain others count ⌝ }
+fn step_to_end(playing: PlayingPart, cursor: usize, plain: u32, others: usize, count: usize) -> Step
+    ensures { λ r. ⌜ r ≡ stepEnding playing cursor plain others count ⌝ }
 {
-    let at = current.at;
+    let at = playing.at;
     if at.part == Part::OPENING {
         return no_step();
     }
@@ -177,7 +177,7 @@ fn step_to_end(current: Current, cursor: usize, plain: u32, others: usize, count
 
 // The step that leaves so many operations of the part, the next one at a cursor with so many writes made.
 pub fn step_to(
-    current: Current,
+    playing: PlayingPart,
     left: u32,
     cursor: usize,
     writes: u32,
@@ -185,13 +185,13 @@ pub fn step_to(
     others: usize,
     count: usize,
 ) -> Step
-    requires { ⌜ left ≤ current .at .«operation_count» ⌝ }
-    ensures { λ r. ⌜ r ≡ stepTo current left cursor writes plain others count ⌝ }
+    requires { ⌜ left ≤ playing .at .«operation_count» ⌝ }
+    ensures { λ r. ⌜ r ≡ stepTo playing left cursor writes plain others count ⌝ }
 {
     if left == 0 {
-        return step_to_end(current, cursor, plain, others, count);
+        return step_to_end(playing, cursor, plain, others, count);
     }
-    let at = current.at;
+    let at = playing.at;
     let to = onward_to(at, cursor, at.operation_count - left, writes);
     step_from(at, plain, others, count, false, to)
 }

@@ -11,18 +11,18 @@ use Rattle.base_format.specs.Player.{placed, Gathered, Played, call}
 use Rattle.base_format.specs.State.{moved}
 use Rattle.play_fast_plain.specs.Plain.{plainBehind, plainWrites}
 use Rattle.play_fast_plain.proofs.Gather.{gather-all}
-use Rattle.play_fast_part.specs.declared.Current.{Current}
+use Rattle.play_fast_part.specs.declared.PlayingPart.{PlayingPart}
 use Rattle.play_fast_part.specs.declared.Step.{Step}
-use Rattle.play_fast_part.specs.Current.{noCurrent, currentOf, leftOf, playing}
+use Rattle.play_fast_part.specs.PlayingPart.{noPlayingPart, playingPartOf, leftOf, playing}
 use Rattle.play_fast_part.specs.Step.{stepped}
-use Rattle.play_fast_part.proofs.Found.{current-there}
-use Rattle.play_fast_part.proofs.Going.{current-going}
+use Rattle.play_fast_part.proofs.Found.{playing-part-there}
+use Rattle.play_fast_part.proofs.Going.{playing-part-going}
 use Rattle.play_fast_part.proofs.Stepped.{limitOf, going-within, taken-writes, step-played}
 use Rattle.play_fast_plain_step.specs.PlainStep.{plainStep}
 use Rattle.play_fast_plain_step.proofs.Takes.{behindOf, Takes, plain-takes}
 
 -- no part, no step: so a step that is taken needs no test of its part
-nothing-taken : (file : List ℕ) (version room : ℕ) (c : Current) (step : Step) → Takes file version room c step → c ≡ noCurrent → ⊥
+nothing-taken : (file : List ℕ) (version room : ℕ) (c : PlayingPart) (step : Step) → Takes file version room c step → c ≡ noPlayingPart → ⊥
 unfolding plainBehind
 nothing-taken file version room c step takes e =
     let zero : takes .count ≡ 0 = omega (arith, rw e at (takes .few)) in
@@ -34,12 +34,12 @@ abbrev pub answerOf : StreamPlayer → List ℕ → Step → Played
 answerOf state file step =
     record { records = plainWrites (state .header .version) file (step .plain) (step .from); complete = step .complete; next = moved state (stepped (state .progress) step) }
 
-module _ (state : StreamPlayer) (file : List ℕ) (room : ℕ) (c : Current) (step : Step) (e : c ≡ currentOf file (state .header) (state .cards .count) (state .progress)) (taken : step .taken ≡ true) where
+module _ (state : StreamPlayer) (file : List ℕ) (room : ℕ) (c : PlayingPart) (step : Step) (e : c ≡ playingPartOf file (state .header) (state .cards .count) (state .progress)) (taken : step .taken ≡ true) where
   takes-call : Takes file (state .header .version) room c step → call state file room ≡ ok (answerOf state file step)
   takes-call takes =
       let version = state .header .version in
-      let there = current-there file (state .header) (state .progress) c (state .cards .count) e (nothing-taken file version room c step takes) in
-      let going = current-going state file c e there in
+      let there = playing-part-there file (state .header) (state .progress) c (state .cards .count) e (nothing-taken file version room c step takes) in
+      let going = playing-part-going state file c e there in
       let count = takes .count in
       let behind = behindOf file version c count in
       let q : Progress = playing (state .progress) c in
@@ -50,6 +50,6 @@ module _ (state : StreamPlayer) (file : List ℕ) (room : ℕ) (c : Current) (st
       rw (writes .plainly, writes .from) (step-played state file room c (leftOf c - count) behind 0 count 0 count step e there (plainWrites version file count (c .at .cursor)) (room - count)
       (gathers ∙ placed′) (omega arith) (takes .is) taken)
 
-pub plain-call : (state : StreamPlayer) (file : List ℕ) (room : ℕ) (c : Current) (step : Step) → c ≡ currentOf file (state .header) (state .cards .count) (state .progress)
+pub plain-call : (state : StreamPlayer) (file : List ℕ) (room : ℕ) (c : PlayingPart) (step : Step) → c ≡ playingPartOf file (state .header) (state .cards .count) (state .progress)
     → step ≡ plainStep file (state .header .version) c room → step .taken ≡ true → call state file room ≡ ok (answerOf state file step)
 plain-call state file room c step e s taken = takes-call state file room c step e taken (plain-takes file (state .header .version) room c step s taken)

@@ -71,7 +71,7 @@ fn card_target(card: CardRequirement) -> Target
 }
 
 // Stores the ranges of a card's slot. A slot past the eight is no target.
-fn put_card(starts: &mut [u32; RANGES], ends: &mut [u64; RANGES], card: CardRequirement)
+fn put_card_ranges(starts: &mut [u32; RANGES], ends: &mut [u64; RANGES], card: CardRequirement)
     requires { ⌜ (length (now starts) ≡ 32) × (length (now ends) ≡ 32) ⌝ }
     ensures { λ _. ⌜ (now (starts .exit) ≡ startsCard (now (starts .entry)) card) × (now (ends .exit) ≡ endsCard (now (ends .entry)) card) ⌝ }
 {
@@ -108,6 +108,6 @@ pub fn address_ranges(
     while 0 < i {
         i -= 1;
         let card = cards.cards[i];
-        put_card(starts, ends, card);
+        put_card_ranges(starts, ends, card);
     }
 }

@@ -1,3 +1,3 @@
--- What the contracts of `item_span` cite.
+-- What the contracts of `play_item_span` cite.
 pub mod Decoded
 pub mod Span

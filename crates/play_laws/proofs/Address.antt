@@ -15,7 +15,7 @@ use Rattle.base_targets.specs.declared.Target.the-variants.{Core, Pcm, Bank, Sl
 use Rattle.base_format.specs.Card.{oneCardWrong}
 use Rattle.base_format.specs.Checked.{ok}
 use Rattle.base_format.specs.Operation.{Setting, Item, writeRules, fillRules, allowed, itemAt}
-use Rattle.play_laws.specs.Pace.{countOf, addressOf}
+use Rattle.play_laws.specs.Plan.{countOf, addressOf}
 use Rattle.base_format.specs.Player.{settingIn, slotWrong, cardUsed, poolsUsed, itemUsed}
 use Rattle.base_format.specs.Target.{slotOf, slotTarget, targetOf, missing, writeLimit, bulkStart, bulkLength}
 use Rattle.base_format.specs.Writes.{targetNumber}

@@ -1,4 +1,4 @@
 pub mod Used
 pub mod Address
-pub mod Paced
+pub mod PlannedOperations
 pub mod Planned

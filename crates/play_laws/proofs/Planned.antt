@@ -12,14 +12,14 @@ use Rattle.base_format.specs.declared.player.Progress.{Progress}
 use Rattle.base_format.specs.declared.player.StreamPlayer.{StreamPlayer}
 use Rattle.base_format.specs.declared.operation.WriteRecord.{WriteRecord}
 use Rattle.base_format.specs.Checked.{Checked, ok, refused, refuse, mapped, _>>=_, _>>_}
-use Rattle.play_laws.specs.Pace.{Plan, planOf, planFrame, planOpening, planClosing, plan, planned}
+use Rattle.play_laws.specs.Plan.{Plan, planOf, planFrame, planOpening, planClosing, plan, planned}
 use Rattle.base_format.specs.Next.{nextPart}
 use Rattle.base_format.specs.State.{partNumber, partOf, moved}
 use Rattle.base_format.specs.Player.{Gathered, gathered, Played, openingBegun, frameBegun, frameEnded, closingAt, operationsLeft, playFrame, playOpening, playClosing, play, belongs, as25, call, runAfter}
 use Rattle.base_format.specs.Stream.{openingLimit}
 use Rattle.base_format.specs.Writes.{silence, closingWrites, closingCount}
 use Rattle.base_format.proofs.Checks.{refused-not-ok, through, passed-test, passed-check, ok-is}
-use Rattle.play_laws.proofs.Paced.{paced-is, room-taken}
+use Rattle.play_laws.proofs.PlannedOperations.{planned-operations-is, room-taken}
 
 plan-is : {a b : ℕ} (complete : Bool) (next : StreamPlayer) → a ≡ b → _≡_ {A = Checked Plan} (ok (record { count = a; complete = complete; next = next })) (ok (record { count = b; complete = complete; next = next }))
 plan-is complete next e = λ i. ok (record { count = e i; complete = complete; next = next })
@@ -44,7 +44,7 @@ frame-taken state room (refused number place) total = refl
 pub plan-frame : (state : StreamPlayer) (file : List ℕ) (room : ℕ) (p : Progress) → planFrame state file room p ≡ mapped planOf (playFrame state file room p)
 unfolding planFrame playFrame
 plan-frame state file room p =
-    rw (paced-is state file (length file) (operationsLeft p) room p) (frame-taken state room (gathered state file (length file) (operationsLeft p) room p) (room-taken state file (length file) (operationsLeft p) room p))
+    rw (planned-operations-is state file (length file) (operationsLeft p) room p) (frame-taken state room (gathered state file (length file) (operationsLeft p) room p) (room-taken state file (length file) (operationsLeft p) room p))
 
 -- THE OPENING
 
@@ -85,7 +85,7 @@ opening-taken state file room (ok g) total = go (eqb (operationsLeft (g .progres
 pub plan-opening : (state : StreamPlayer) (file : List ℕ) (room : ℕ) (p : Progress) → planOpening state file room p ≡ mapped planOf (playOpening state file room p)
 unfolding planOpening playOpening
 plan-opening state file room p =
-    rw (paced-is state file (openingLimit (state .header) file) (operationsLeft p) room p)
+    rw (planned-operations-is state file (openingLimit (state .header) file) (operationsLeft p) room p)
     (opening-taken state file room (gathered state file (openingLimit (state .header) file) (operationsLeft p) room p) (room-taken state file (openingLimit (state .header) file) (operationsLeft p) room p))
 
 -- THE CLOSING WRITES

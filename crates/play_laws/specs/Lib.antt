@@ -1,1 +1,1 @@
-pub mod Pace
+pub mod Plan

@@ -11,7 +11,7 @@ use Rattle.base_format.specs.declared.player.Part.the-variants.{Between, Openin
 use Rattle.base_format.specs.declared.player.Progress.{Progress}
 use Rattle.base_format.specs.declared.player.StreamPlayer.{StreamPlayer}
 use Rattle.base_format.specs.Checked.{refuse, _>>_}
-use Rattle.play_laws.specs.Pace.{planFrame, planOpening, planClosing, plan, planned}
+use Rattle.play_laws.specs.Plan.{planFrame, planOpening, planClosing, plan, planned}
 use Rattle.base_format.specs.Next.{nextPart}
 use Rattle.base_format.specs.Player.{openingBegun, closingAt, belongs}
 use Rattle.base_format.specs.State.{partNumber, partOf}

@@ -8,11 +8,11 @@ use lib.ListN.{length}
 use Rattle.base_format.specs.declared.player.Progress.{Progress}
 use Rattle.base_format.specs.declared.player.StreamPlayer.{StreamPlayer}
 use Rattle.base_format.specs.Checked.{Checked, ok, refused, refuse, _>>=_, _>>_}
-use Rattle.play_laws.specs.Pace.{Plan, paced, planFrame, planClosing}
+use Rattle.play_laws.specs.Plan.{Plan, plannedOperations, planFrame, planClosing}
 use Rattle.base_format.specs.Player.{frameBegun, frameEnded, operationsLeft, as25}
 use Rattle.base_format.specs.State.{moved}
-use Rattle.play_plan_part.specs.declared.operations.Paced.{Paced}
-use Rattle.play_plan_part.specs.Told.{paceOf}
+use Rattle.play_plan_part.specs.declared.operations.OperationsPlan.{OperationsPlan}
+use Rattle.play_plan_part.specs.Told.{operationsPlanOf}
 use Rattle.play_plan.specs.declared.call.CallPlan.{CallPlan}
 use Rattle.play_plan.specs.declared.taken.Taken.{Taken}
 use Rattle.play_plan.specs.Told.{noPlan, planTold, nothing, takenTold, takenBy, ended, planBegun, behind, closingTaken}
@@ -43,11 +43,11 @@ frame-done state count p true false = refl
 frame-done state count p false true = refl
 frame-done state count p false false = refl
 
-pub told-frame : (state : StreamPlayer) (file : List ℕ) (room : ℕ) (p : Progress) (r : Paced) → paceOf r ≡ as25 (paced state file (length file) (operationsLeft p) room p)
+pub told-frame : (state : StreamPlayer) (file : List ℕ) (room : ℕ) (p : Progress) (r : OperationsPlan) → operationsPlanOf r ≡ as25 (plannedOperations state file (length file) (operationsLeft p) room p)
     → takenTold state (ended (takenBy room r)) ≡ planTold state (planFrame state file room p)
 unfolding planFrame
 told-frame state file room p r e =
-    rw (told-bind state (paced state file (length file) (operationsLeft p) room p), ← e)
+    rw (told-bind state (plannedOperations state file (length file) (operationsLeft p) room p), ← e)
     (frame-done state (room - r .room) (r .progress) (r .refused) (eqb (operationsLeft (r .progress)) 0) ∙ go (r .refused))
   where
     go : (no : Bool)

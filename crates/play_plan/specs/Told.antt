@@ -8,12 +8,12 @@ use Rattle.base_format.specs.declared.player.Progress.{Progress}
 use Rattle.base_format.specs.declared.player.StreamPlayer.{StreamPlayer}
 use Rattle.base_format.specs.declared.rule.Rule.the-variants.{OtherFile}
 use Rattle.base_format.specs.Checked.{Checked, ok, refused, _>>=_}
-use Rattle.play_laws.specs.Pace.{Plan, planFrame, plan}
+use Rattle.play_laws.specs.Plan.{Plan, planFrame, plan}
 use Rattle.base_format.specs.Writes.{closingCount}
 use Rattle.base_format.specs.Player.{frameBegun, frameEnded, closingAt, operationsLeft}
 use Rattle.base_format.specs.Rule.{numberOf}
 use Rattle.base_format.specs.State.{moved}
-use Rattle.play_plan_part.specs.declared.operations.Paced.{Paced}
+use Rattle.play_plan_part.specs.declared.operations.OperationsPlan.{OperationsPlan}
 use Rattle.play_plan.specs.declared.call.CallPlan.{CallPlan}
 use Rattle.play_plan.specs.declared.taken.Taken.{Taken}
 
@@ -39,7 +39,7 @@ takenTold state t =
     cond (t .refused) (noPlan state) (record { number = 0; place = 0; count = t .count; complete = t .complete; next = moved state (t .progress) })
 
 -- of so much room: all that is not left of it
-abbrev pub takenBy : (room : ℕ) → Paced → Taken
+abbrev pub takenBy : (room : ℕ) → OperationsPlan → Taken
 takenBy room r = record { refused = r .refused; count = room - r .room; complete = false; progress = r .progress }
 
 -- the vsync is complete where no operation of its frame is left

@@ -16,7 +16,7 @@ use base_state::opening_begun;
 use base_state::part_of;
 use play_belongs::foreign;
 ghost use mathlib.Core.Path.{_≡_};
-ghost use Rattle.play_laws.specs.Pace.{plan, planned};
+ghost use Rattle.play_laws.specs.Plan.{plan, planned};
 ghost use Rattle.base_format.specs.State.{partOf};
 ghost use Rattle.play_plan.specs.Told.{noPlan, planTold, takenTold, planBetween};
 

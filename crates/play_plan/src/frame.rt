@@ -10,10 +10,10 @@ use base_state::frame_begun;
 use base_state::frame_ended;
 use bytes_read::passes;
 use bytes_read::read_u16;
-use play_plan_part::pace;
+use play_plan_part::plan_operations;
 ghost use mathlib.Core.Path.{_≡_};
 ghost use Prim.Native.Nat.{_+_, _^_, _≤_, _<_};
-ghost use Rattle.play_laws.specs.Pace.{planFrame};
+ghost use Rattle.play_laws.specs.Plan.{planFrame};
 ghost use Rattle.play_plan.specs.Told.{planTold, takenTold, ended, planBegun};
 
 // The vsync is complete where no operation of its frame is left.
@@ -36,8 +36,8 @@ fn ended(taken: Taken) -> Taken
 pub(crate) fn plan_frame(file: &[u8], state: StreamPlayer, room: usize, progress: Progress) -> Taken
     ensures { λ r. ⌜ (takenTold state r ≡ planTold state (planFrame state (now (file .entry)) room progress)) × (r .count ≤ room) ⌝ }
 {
-    let paced = pace(file, state, file.len(), room, progress);
-    ended(taken_by(room, paced))
+    let plan = plan_operations(file, state, file.len(), room, progress);
+    ended(taken_by(room, plan))
 }
 
 // A frame, counted from 0, that begins at the cursor.

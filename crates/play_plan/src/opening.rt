@@ -7,9 +7,9 @@ use base_format::Progress;
 use base_format::StreamPlayer;
 use base_next_part::opening_limit;
 use base_next_part::operations_left;
-use play_plan_part::pace;
+use play_plan_part::plan_operations;
 ghost use mathlib.Core.Path.{_≡_};
-ghost use Rattle.play_laws.specs.Pace.{planOpening};
+ghost use Rattle.play_laws.specs.Plan.{planOpening};
 ghost use Rattle.play_plan.specs.Told.{planTold, takenTold};
 
 pub(crate) fn plan_opening(
@@ -22,15 +22,15 @@ pub(crate) fn plan_opening(
 {
     let frame_start = state.header.frame_start;
     let limit = opening_limit(file, state.header);
-    let paced = pace(file, state, limit, room, progress);
-    let taken = taken_by(room, paced);
-    if paced.refused {
+    let plan = plan_operations(file, state, limit, room, progress);
+    let taken = taken_by(room, plan);
+    if plan.refused {
         return taken;
     }
-    let after = paced.progress;
+    let after = plan.progress;
     if operations_left(after.operation_index, after.operation_count) != 0 {
         return taken;
     }
-    let more = begin_frame(file, state, paced.room, frame_start, 0, after);
+    let more = begin_frame(file, state, plan.room, frame_start, 0, after);
     behind(taken.count, more)
 }

@@ -1,6 +1,6 @@
 // What a call takes of the part that is playing, before it is put into the state.
 use base_format::Progress;
-use play_plan_part::Paced;
+use play_plan_part::OperationsPlan;
 ghost use mathlib.Core.Path.{_≡_};
 ghost use Prim.Native.Nat.{_+_, _^_, _≤_, _<_};
 ghost use Rattle.play_plan.specs.Told.{nothing, takenBy, behind};
@@ -26,14 +26,14 @@ pub fn refused_part(progress: Progress) -> Taken
 }
 
 // What was taken of so much room: all that is not left of it.
-pub fn taken_by(room: usize, paced: Paced) -> Taken
-    requires { ⌜ paced .room ≤ room ⌝ }
-    ensures { λ r. ⌜ r ≡ takenBy room paced ⌝ }
+pub fn taken_by(room: usize, plan: OperationsPlan) -> Taken
+    requires { ⌜ plan .room ≤ room ⌝ }
+    ensures { λ r. ⌜ r ≡ takenBy room plan ⌝ }
 {
-    let progress = paced.progress;
+    let progress = plan.progress;
     Taken {
-        refused: paced.refused,
-        count: room - paced.room,
+        refused: plan.refused,
+        count: room - plan.room,
         complete: false,
         progress: progress,
     }

@@ -32,7 +32,7 @@ fn slot_wrong(table: CardTable, slot: u8) -> bool
 }
 
 // Whether the card of a target breaks such a rule.
-fn card_wrong(version: u8, cards: CardTable, target: u8) -> bool
+fn target_card_wrong(version: u8, cards: CardTable, target: u8) -> bool
     ensures { λ r. ⌜ r ≡ cardOfTarget version (cardsOf cards) target ⌝ }
 {
     if version != 4 {
@@ -68,13 +68,13 @@ pub fn use_wrong(file: &[u8], header: Header, cards: CardTable, operation: Opera
             target,
             address: _,
             value: _,
-        } => card_wrong(version, cards, target),
+        } => target_card_wrong(version, cards, target),
         Operation::Fill {
             target,
             address: _,
             length: _,
             value: _,
-        } => card_wrong(version, cards, target),
+        } => target_card_wrong(version, cards, target),
         Operation::Copy {
             target,
             address: _,
@@ -82,7 +82,7 @@ pub fn use_wrong(file: &[u8], header: Header, cards: CardTable, operation: Opera
             source: _,
             length: _,
         } => {
-            if card_wrong(version, cards, target) {
+            if target_card_wrong(version, cards, target) {
                 return true;
             }
             pool_past(file, header.directory_offset, header.pool_count, pool)

@@ -1,1 +1,1 @@
-pub mod Pacing
+pub mod PlannedOperations

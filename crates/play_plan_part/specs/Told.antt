@@ -10,15 +10,15 @@ use Rattle.base_format.specs.declared.player.StreamPlayer.{StreamPlayer}
 use Rattle.base_format.specs.declared.player.WaveSource.{WaveSource}
 use Rattle.base_format.specs.Checked.{Checked, ok, refused, refuse, _>>=_, _>>_}
 use Rattle.base_format.specs.Operation.{Item}
-use Rattle.play_laws.specs.Pace.{countOf}
+use Rattle.play_laws.specs.Plan.{countOf}
 use Rattle.base_format.specs.Player.{wavesBy}
 use Rattle.play_plan_item.specs.Used.{itemUsedBy}
-use Rattle.play_plan_part.specs.declared.item.Started.{Started}
-use Rattle.play_plan_part.specs.declared.operations.Paced.{Paced}
+use Rattle.play_plan_part.specs.declared.item.ItemStart.{ItemStart}
+use Rattle.play_plan_part.specs.declared.operations.OperationsPlan.{OperationsPlan}
 
 -- the room that is left and the progress, or refusal 25
-abbrev pub paceOf : Paced → Checked (ℕ × Progress)
-paceOf r = cond (r .refused) (refused 25 0) (ok (r .room, r .progress))
+abbrev pub operationsPlanOf : OperationsPlan → Checked (ℕ × Progress)
+operationsPlanOf r = cond (r .refused) (refused 25 0) (ok (r .room, r .progress))
 
 -- the wave sources with a pool at the place of a target and an address
 abbrev pub wavesWith : List WaveSource → (target address id : ℕ) → List WaveSource
@@ -34,12 +34,12 @@ pub record Start : Type 0 where
   pub next : ℕ
   pub waves : List WaveSource
 
-abbrev pub startedOf : Started → Checked Start
-startedOf r = cond (r .refused) (refused 25 0) (ok (record { rest = r .rest; next = r .next; waves = r .waves }))
+abbrev pub itemStartOf : ItemStart → Checked Start
+itemStartOf r = cond (r .refused) (refused 25 0) (ok (record { rest = r .rest; next = r .next; waves = r .waves }))
 
 -- the operation at the cursor, of which so many writes are made
-abbrev pub started : StreamPlayer → List ℕ → (limit cursor writes : ℕ) → List WaveSource → Checked Start
-started state file limit cursor writes waves =
+abbrev pub itemStart : StreamPlayer → List ℕ → (limit cursor writes : ℕ) → List WaveSource → Checked Start
+itemStart state file limit cursor writes waves =
     itemUsedBy (state .header) (state .cards) file limit cursor >>= λ (item : Item). refuse 25 0 (ltb (countOf (item .operation)) writes) >> ok (record {
       rest = countOf (item .operation) - writes;
       next = item .next;

@@ -8,10 +8,10 @@ use play_plan_item::item_used;
 ghost use mathlib.Core.Path.{_≡_};
 ghost use mathlib.Core.Bool.{true};
 ghost use Prim.Native.Nat.{_+_, _^_, _<_};
-ghost use Rattle.play_plan_part.specs.Told.{startedOf, started};
+ghost use Rattle.play_plan_part.specs.Told.{itemStartOf, itemStart};
 
 // How many of its writes are still to be made, the place behind it, and the wave sources with its first write made; or refusal 25.
-pub struct Started {
+pub struct ItemStart {
     pub refused: bool,
     pub rest: u32,
     pub next: usize,
@@ -19,10 +19,10 @@ pub struct Started {
 }
 
 // Refusal 25.
-fn refused_item(waves: [WaveSource; 16]) -> Started
+fn refused_item(waves: [WaveSource; 16]) -> ItemStart
     ensures { λ r. ⌜ (r .refused ≡ true) × (r .rest ≡ 0) ⌝ }
 {
-    Started {
+    ItemStart {
         refused: true,
         rest: 0,
         next: 0,
@@ -31,15 +31,15 @@ fn refused_item(waves: [WaveSource; 16]) -> Started
 }
 
 // The operation at the cursor, of which so many writes are made.
-pub(crate) fn start(
+pub(crate) fn start_item(
     file: &[u8],
     state: StreamPlayer,
     limit: usize,
     cursor: usize,
     writes: u32,
     waves: [WaveSource; 16],
-) -> Started
-    ensures { λ r. ⌜ (startedOf r ≡ started state (now (file .entry)) limit cursor writes waves) × (writes + r .rest < 2 ^ 32) ⌝ }
+) -> ItemStart
+    ensures { λ r. ⌜ (itemStartOf r ≡ itemStart state (now (file .entry)) limit cursor writes waves) × (writes + r .rest < 2 ^ 32) ⌝ }
 {
     let header = state.header;
     let cards = state.cards;
@@ -51,7 +51,7 @@ pub(crate) fn start(
         return refused_item(waves);
     }
     let set = waves_now(file, header.directory_offset, operation, writes, waves);
-    Started {
+    ItemStart {
         refused: false,
         rest: count - writes,
         next: next,

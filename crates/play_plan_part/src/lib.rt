@@ -3,6 +3,6 @@ mod item;
 mod operations;
 mod waves;
 
-pub use operations::Paced;
-pub use operations::pace;
+pub use operations::OperationsPlan;
+pub use operations::plan_operations;
 pub use waves::count_of;

@@ -1,5 +1,5 @@
 // The operations that are left of a part, as far as there is room for their writes.
-use crate::item::start;
+use crate::item::start_item;
 use base_format::Progress;
 use base_format::StreamPlayer;
 use base_next_part::operations_left;
@@ -7,21 +7,21 @@ use base_state::placed;
 ghost use mathlib.Core.Path.{_≡_};
 ghost use mathlib.Core.Bool.{true};
 ghost use Prim.Native.Nat.{_≤_};
-ghost use Rattle.play_laws.specs.Pace.{paced};
+ghost use Rattle.play_laws.specs.Plan.{plannedOperations};
 ghost use Rattle.base_format.specs.Player.{operationsLeft, as25};
-ghost use Rattle.play_plan_part.specs.Told.{paceOf};
+ghost use Rattle.play_plan_part.specs.Told.{operationsPlanOf};
 
 // The room that is left and the progress; or refusal 25.
-pub struct Paced {
+pub struct OperationsPlan {
     pub refused: bool,
     pub room: usize,
     pub progress: Progress,
 }
 
-fn answer(refused: bool, room: usize, progress: Progress) -> Paced
+fn answer(refused: bool, room: usize, progress: Progress) -> OperationsPlan
     ensures { λ r. ⌜ r ≡ record { refused = refused; room = room; progress = progress } ⌝ }
 {
-    Paced {
+    OperationsPlan {
         refused: refused,
         room: room,
         progress: progress,
@@ -29,14 +29,14 @@ fn answer(refused: bool, room: usize, progress: Progress) -> Paced
 }
 
 // The operations from the progress on, for as many writes as there is room for. Without room nothing is read.
-pub fn pace(
+pub fn plan_operations(
     file: &[u8],
     state: StreamPlayer,
     limit: usize,
     room: usize,
     progress: Progress,
-) -> Paced
-    ensures { λ r. ⌜ (paceOf r ≡ as25 (paced state (now (file .entry)) limit (operationsLeft progress) room progress))
+) -> OperationsPlan
+    ensures { λ r. ⌜ (operationsPlanOf r ≡ as25 (plannedOperations state (now (file .entry)) limit (operationsLeft progress) room progress))
         × (r .room ≤ room) × (r .refused ≡ true → (r .room ≡ 0) × (r .progress ≡ progress)) ⌝ }
 {
     let mut waves = progress.wave_sources;
@@ -53,7 +53,7 @@ pub fn pace(
                 placed(progress, cursor, operations, writes, waves),
             );
         }
-        let started = start(file, state, limit, cursor, writes, waves);
+        let started = start_item(file, state, limit, cursor, writes, waves);
         if started.refused {
             return answer(true, 0, progress);
         }

@@ -3,7 +3,7 @@ use base_format::Operation;
 use base_format::WaveSource;
 use check_pools::read_pool;
 ghost use mathlib.Core.Path.{_≡_};
-ghost use Rattle.play_laws.specs.Pace.{countOf};
+ghost use Rattle.play_laws.specs.Plan.{countOf};
 ghost use Rattle.base_format.specs.Player.{wavesBy};
 ghost use Rattle.play_plan_part.specs.Told.{wavesWith, wavesNow};
 

@@ -9,7 +9,7 @@ use Rattle.base_format.specs.declared.operation.WriteRecord.{WriteRecord}
 use Rattle.base_format.specs.declared.player.StreamPlayer.{StreamPlayer}
 use Rattle.base_format.specs.Checked.{Checked, ok, refused, mapped, _>>_}
 use Rattle.base_format.specs.Listener.{after}
-use Rattle.play_laws.specs.Pace.{planOf, planned}
+use Rattle.play_laws.specs.Plan.{planOf, planned}
 use Rattle.base_format.specs.Player.{Played, play, belongs, as25, call, runAfter}
 use Rattle.base_format.proofs.Checks.{refused-not-ok}
 use Rattle.play_laws.proofs.Planned.{planned-is}

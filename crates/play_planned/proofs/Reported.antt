@@ -1,5 +1,5 @@
 -- What a call reports is what it answers: as many records as it counts, from the front of the run that it leaves, are the answer's. So a
--- listener that is fed the reports hears the answers that demand 3 speaks of (`Reports`, format/specs/Promises).
+-- listener that is fed the reports hears the answers that demand 3 speaks of (`Reports`, base_format/specs/Promises).
 use Prim.Native.Nat.{ℕ}
 use mathlib.Core.List.{List}
 use mathlib.Core.Path.{_≡_, refl, ap, ap₂, _∙_}

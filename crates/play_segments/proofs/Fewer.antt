@@ -8,7 +8,7 @@ use Rattle.base_format.specs.declared.operation.Operation.{Operation}
 use Rattle.base_format.specs.declared.player.StreamPlayer.{StreamPlayer}
 use Rattle.base_format.specs.Checked.{Checked, ok, refused}
 use Rattle.base_format.specs.Operation.{Item}
-use Rattle.play_laws.specs.Pace.{countOf}
+use Rattle.play_laws.specs.Plan.{countOf}
 use Rattle.play_segments.specs.declared.place.Place.{Place}
 use Rattle.play_segments.specs.declared.place.Turn.{Turn}
 use Rattle.play_item_span.specs.Decoded.{decoded}

@@ -17,12 +17,12 @@ use Rattle.play_item_span.specs.declared.span.Span.{Span}
 use Rattle.play_segments.specs.Operation.{unplayable}
 use Rattle.play_segments.specs.Place.{stopped, onward, runPlace}
 use Rattle.play_item_span.specs.Span.{spanOf, spanFrom}
-use Rattle.play_segments.specs.SpanTurn.{ended, fitted, spanSegment, behind, spanTurn}
+use Rattle.play_segments.specs.SpanTurn.{spanEnded, fitted, spanSegment, placeBehind, spanTurn}
 use Rattle.play_segments.specs.Turn.{halted, operationTurn, turnOf}
 
--- what holds where the writes have not ended
-pub goes-on : (span : Span) (done : ℕ) → ended span done ≡ false → (done ≤ span .count) × (span .address + done ≤ 0xFFFFFFFF)
-unfolding ended
+-- what holds where the writes have not spanEnded
+pub goes-on : (span : Span) (done : ℕ) → spanEnded span done ≡ false → (done ≤ span .count) × (span .address + done ≤ 0xFFFFFFFF)
+unfolding spanEnded
 goes-on span done e =
     let both = or-false (not (span .known) || ltb (span .count) done) _ e in
     (ltb-false _ _ (or-false (not (span .known)) _ (both .0) .1), ltb-false _ _ (both .1))
@@ -34,26 +34,26 @@ chosen false at room rest segment p q = refl
 
 module _ (file : List ℕ) (directory : ℕ) (place : Place) where
   turn-chosen : (test : Bool) (rest next : ℕ) (segment : ℕ → Segment)
-      → cond test (halted place) (record { at = runPlace place; segment = segment (fitted (place .room) rest); place = behind place next rest })
+      → cond test (halted place) (record { at = runPlace place; segment = segment (fitted (place .room) rest); place = placeBehind place next rest })
       ≡ cond test (halted place) (cond (leb (place .room) rest) (record { at = runPlace place; segment = segment (place .room); place = stopped place })
       (record { at = runPlace place; segment = segment rest; place = onward place next rest }))
   turn-chosen test rest next segment =
       ap (λ (t : Turn). cond test (halted place) t) (chosen (leb (place .room) rest) (runPlace place) (place .room) rest segment (stopped place) (onward place next rest))
 
   operation-turns : (operation : Operation) (next : ℕ) → spanTurn place (spanOf file directory operation next) ≡ operationTurn file directory place operation next
-  unfolding spanTurn operationTurn ended unplayable
+  unfolding spanTurn operationTurn spanEnded unplayable
   operation-turns (Write target address value) next =
       let span = spanOf file directory (Write target address value) next in
-      turn-chosen (ended span (place .done)) (span .count - place .done) next (spanSegment span (place .done))
+      turn-chosen (spanEnded span (place .done)) (span .count - place .done) next (spanSegment span (place .done))
   operation-turns (Fill target address size value) next =
       let span = spanOf file directory (Fill target address size value) next in
-      turn-chosen (ended span (place .done)) (span .count - place .done) next (spanSegment span (place .done))
+      turn-chosen (spanEnded span (place .done)) (span .count - place .done) next (spanSegment span (place .done))
   operation-turns (Copy target address id source size) next =
       let span = spanOf file directory (Copy target address id source size) next in
-      turn-chosen (ended span (place .done)) (span .count - place .done) next (spanSegment span (place .done))
+      turn-chosen (spanEnded span (place .done)) (span .count - place .done) next (spanSegment span (place .done))
 
   item-turns : (item : Checked Item) → spanTurn place (spanFrom file directory item) ≡ turnOf file directory place item
-  unfolding spanTurn ended
+  unfolding spanTurn spanEnded
   item-turns (ok item) = operation-turns (item .operation) (item .next)
   item-turns (refused number at) = refl
 

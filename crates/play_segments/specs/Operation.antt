@@ -5,7 +5,7 @@ use mathlib.Core.List.{List}
 use lib.Dec.{ltb}
 use Rattle.base_format.specs.declared.operation.Operation.{Operation}
 use Rattle.base_format.specs.declared.operation.Operation.the-variants.{Write, Fill, Copy}
-use Rattle.play_laws.specs.Pace.{countOf, addressOf}
+use Rattle.play_laws.specs.Plan.{countOf, addressOf}
 use Rattle.base_format.specs.Pool.{poolAt}
 use Rattle.play_store_segment.specs.declared.Segment.{Segment}
 use Rattle.play_segments.specs.Place.{oneValue}
@@ -15,8 +15,8 @@ unfoldable pub unplayable : Operation → (done : ℕ) → Bool
 unplayable operation done = ltb (countOf operation) done || ltb 0xFFFFFFFF (addressOf operation + done)
 
 -- so many writes behind those that are done, upward from an address
-abbrev pub segmentOf : List ℕ → (directory : ℕ) → Operation → (address done count : ℕ) → Segment
-segmentOf file directory (Write target first value) address done count = oneValue target address count value
-segmentOf file directory (Fill target first size value) address done count = oneValue target address count value
-segmentOf file directory (Copy target first id source size) address done count =
+abbrev pub segmentFrom : List ℕ → (directory : ℕ) → Operation → (address done count : ℕ) → Segment
+segmentFrom file directory (Write target first value) address done count = oneValue target address count value
+segmentFrom file directory (Fill target first size value) address done count = oneValue target address count value
+segmentFrom file directory (Copy target first id source size) address done count =
     record { target = target; address = address; count = count; copied = true; value = 0; from = poolAt file directory id .offset + (source + done) }

@@ -10,28 +10,28 @@ use Rattle.play_segments.specs.Place.{stopped, onward, runPlace}
 use Rattle.play_segments.specs.Turn.{halted}
 
 -- there is no item, more writes are done than there are, or the next one's address has more than 32 bits
-unfoldable pub ended : Span → (done : ℕ) → Bool
-ended span done = not (span .known) || ltb (span .count) done || ltb 0xFFFFFFFF (span .address + done)
+unfoldable pub spanEnded : Span → (done : ℕ) → Bool
+spanEnded span done = not (span .known) || ltb (span .count) done || ltb 0xFFFFFFFF (span .address + done)
 
 -- of the writes that are left, those that there is room for
 abbrev pub fitted : (room rest : ℕ) → ℕ
 fitted room rest = cond (leb room rest) room rest
 
--- where the copied bytes begin behind those that are done
+-- where the copied bytes begin placeBehind those that are done
 abbrev pub fromBehind : Span → (done : ℕ) → ℕ
 fromBehind span done = cond (span .copied) (span .offset + (span .source + done)) 0
 
--- so many writes behind those that are done
+-- so many writes placeBehind those that are done
 abbrev pub spanSegment : Span → (done count : ℕ) → Segment
 spanSegment span done count =
     record { target = span .target; address = span .address + done; count = count; copied = span .copied; value = span .value; from = fromBehind span done }
 
--- the place behind so many writes; with no room behind them nothing is left
-abbrev pub behind : Place → (next rest : ℕ) → Place
-behind place next rest = cond (leb (place .room) rest) (stopped place) (onward place next rest)
+-- the place placeBehind so many writes; with no room placeBehind them nothing is left
+abbrev pub placeBehind : Place → (next rest : ℕ) → Place
+placeBehind place next rest = cond (leb (place .room) rest) (stopped place) (onward place next rest)
 
 unfoldable pub spanTurn : Place → Span → Turn
 spanTurn place span =
     let rest = span .count - place .done in
-    cond (ended span (place .done)) (halted place)
-    (record { at = runPlace place; segment = spanSegment span (place .done) (fitted (place .room) rest); place = behind place (span .next) rest })
+    cond (spanEnded span (place .done)) (halted place)
+    (record { at = runPlace place; segment = spanSegment span (place .done) (fitted (place .room) rest); place = placeBehind place (span .next) rest })

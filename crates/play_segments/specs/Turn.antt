@@ -7,13 +7,13 @@ use Rattle.base_format.specs.declared.operation.Operation.{Operation}
 use Rattle.base_format.specs.declared.player.StreamPlayer.{StreamPlayer}
 use Rattle.base_format.specs.Checked.{Checked, ok, refused}
 use Rattle.base_format.specs.Operation.{Item}
-use Rattle.play_laws.specs.Pace.{countOf, addressOf}
+use Rattle.play_laws.specs.Plan.{countOf, addressOf}
 use Rattle.play_segments.specs.declared.place.Place.{Place}
 use Rattle.play_segments.specs.declared.place.Turn.{Turn}
 use Rattle.play_segments.specs.Place.{oneValue, stopped, onward, runPlace}
 use Rattle.play_segments.specs.Closing.{closingSegment}
 use Rattle.play_item_span.specs.Decoded.{decoded}
-use Rattle.play_segments.specs.Operation.{unplayable, segmentOf}
+use Rattle.play_segments.specs.Operation.{unplayable, segmentFrom}
 
 -- there is no next segment
 abbrev pub halted : Place → Turn
@@ -30,8 +30,8 @@ operationTurn file directory place operation next =
     let rest = countOf operation - place .done in
     let address = addressOf operation + place .done in
     cond (unplayable operation (place .done)) (halted place)
-    (cond (leb (place .room) rest) (record { at = runPlace place; segment = segmentOf file directory operation address (place .done) (place .room); place = stopped place })
-    (record { at = runPlace place; segment = segmentOf file directory operation address (place .done) rest; place = onward place next rest }))
+    (cond (leb (place .room) rest) (record { at = runPlace place; segment = segmentFrom file directory operation address (place .done) (place .room); place = stopped place })
+    (record { at = runPlace place; segment = segmentFrom file directory operation address (place .done) rest; place = onward place next rest }))
 
 -- where no operation is decoded there is none
 abbrev pub turnOf : List ℕ → (directory : ℕ) → Place → Checked Item → Turn

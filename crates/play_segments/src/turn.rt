@@ -1,4 +1,4 @@
-// One segment of a call's records, and the place behind it. A turn of an operation is made at one place: the count and the place behind
+// One segment of a call's records, and the place placeBehind it. A turn of an operation is made at one place: the count and the place placeBehind
 // the segment are chosen first.
 use crate::closing::closing_segment;
 use crate::place::Place;
@@ -12,7 +12,7 @@ use play_item_span::Span;
 use play_item_span::read_span;
 use play_store_segment::Segment;
 ghost use mathlib.Core.Path.{_≡_};
-ghost use Rattle.play_segments.specs.SpanTurn.{ended, fitted, fromBehind, behind, spanTurn};
+ghost use Rattle.play_segments.specs.SpanTurn.{spanEnded, fitted, fromBehind, placeBehind, spanTurn};
 ghost use Rattle.play_segments.specs.Turn.{halted, closingTurn, turn};
 
 // There is no next segment.
@@ -51,8 +51,8 @@ fn closing_turn(place: Place) -> Turn
 }
 
 // Whether there is no item, more writes are done than there are, or the next one's address would wrap.
-fn ended(span: Span, done: u32) -> bool
-    ensures { λ r. ⌜ r ≡ ended span done ⌝ }
+fn span_ended(span: Span, done: u32) -> bool
+    ensures { λ r. ⌜ r ≡ spanEnded span done ⌝ }
 {
     if !span.known {
         return true;
@@ -73,7 +73,7 @@ fn fitted(room: usize, rest: usize) -> usize
     rest
 }
 
-// Where the copied bytes begin behind so many.
+// Where the copied bytes begin placeBehind so many.
 fn from_behind(span: Span, done: u32) -> usize
     ensures { λ r. ⌜ r ≡ fromBehind span done ⌝ }
 {
@@ -83,9 +83,9 @@ fn from_behind(span: Span, done: u32) -> usize
     0
 }
 
-// The place behind so many writes; with no room behind them nothing is left.
-fn behind(place: Place, next: usize, rest: usize) -> Place
-    ensures { λ r. ⌜ r ≡ behind place next rest ⌝ }
+// The place placeBehind so many writes; with no room placeBehind them nothing is left.
+fn place_behind(place: Place, next: usize, rest: usize) -> Place
+    ensures { λ r. ⌜ r ≡ placeBehind place next rest ⌝ }
 {
     if place.room <= rest {
         return stopped(place);
@@ -98,7 +98,7 @@ fn span_turn(place: Place, span: Span) -> Turn
     ensures { λ r. ⌜ r ≡ spanTurn place span ⌝ }
 {
     let done = place.done;
-    if ended(span, done) {
+    if span_ended(span, done) {
         return halted(place);
     }
     let rest = (span.count - done) as usize;
@@ -110,7 +110,7 @@ fn span_turn(place: Place, span: Span) -> Turn
         value: span.value,
         from: from_behind(span, done),
     };
-    let next = behind(place, span.next, rest);
+    let next = place_behind(place, span.next, rest);
     Turn {
         at: less(place.total, place.room),
         segment: segment,

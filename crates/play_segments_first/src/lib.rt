@@ -15,7 +15,7 @@ ghost use mathlib.Core.Path.{_≡_};
 ghost use Prim.Native.Nat.{_-_, _<_};
 ghost use Rattle.base_format.specs.Writes.{closingCount};
 ghost use Rattle.base_format.specs.State.{partOf};
-ghost use Rattle.play_segments_first.specs.Begin.{nowhere, closingFrom, framePlace, frameAt, openingPlace, betweenPlace, partPlace, firstPlace};
+ghost use Rattle.play_segments_first.specs.First.{nowhere, closingFrom, framePlace, frameAt, openingPlace, betweenPlace, partPlace, firstPlace};
 
 // No record is taken.
 fn nowhere(total: usize) -> Place

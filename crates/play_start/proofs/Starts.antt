@@ -14,19 +14,19 @@ use Rattle.check_file.specs.declared.check.FileAnswer.the-variants.{Accepted, R
 use Rattle.check_file.specs.declared.check.FileCheck.{FileCheck}
 use Rattle.check_file.specs.Answer.{fileCheckOf, recorded}
 use Rattle.check_file.proofs.Answers.{AcceptedAs, accepted-as, refused-as}
-use Rattle.play_start.specs.Start.{recordedPlayer, verdictOn}
+use Rattle.play_start.specs.Start.{recordedPlayer, verdictIn}
 
-recorded-as : (file : List ℕ) (header : Header) (cards : CardTable) (uses : Bool) → AcceptedAs file header cards uses → (ok tt ≡ verdictOn (read file)) × (recordedPlayer header cards uses ≡ started file)
+recorded-as : (file : List ℕ) (header : Header) (cards : CardTable) (uses : Bool) → AcceptedAs file header cards uses → (ok tt ≡ verdictIn (read file)) × (recordedPlayer header cards uses ≡ started file)
 unfolding startedAs playerOf
 recorded-as file header cards uses a = (rw (a .reads), rw (a .reads, a .header-is, a .cards-are, a .uses-is))
 
 -- an accepted file is recorded
 pub started-accepted : (file : List ℕ) (r : FileCheck) (header : Header) (uses : Bool) → fileCheckOf r ≡ recorded file → r .answer ≡ Accepted header uses
-    → (ok tt ≡ verdictOn (read file)) × (recordedPlayer header (r .cards) uses ≡ started file)
+    → (ok tt ≡ verdictIn (read file)) × (recordedPlayer header (r .cards) uses ≡ started file)
 started-accepted file r header uses e is = recorded-as file header (r .cards) uses (accepted-as file r header uses e is)
 
 -- a refused file gives the refused player
-pub started-refused : (file : List ℕ) (r : FileCheck) (why : Refusal) → fileCheckOf r ≡ recorded file → r .answer ≡ Refused why → (refusal why ≡ verdictOn (read file)) × (refusedPlayer ≡ started file)
+pub started-refused : (file : List ℕ) (r : FileCheck) (why : Refusal) → fileCheckOf r ≡ recorded file → r .answer ≡ Refused why → (refusal why ≡ verdictIn (read file)) × (refusedPlayer ≡ started file)
 unfolding startedAs
 started-refused file r why e is =
     let found = refused-as file r why e is .0 in

@@ -8,8 +8,8 @@ use Rattle.base_format.specs.State.{unplayed}
 use Rattle.base_format.specs.Stream.{Stream}
 
 -- the verdict on a file that is read
-abbrev pub verdictOn : Checked Stream → Checked (Unit {0})
-verdictOn found = mapped (λ (s : Stream). tt) found
+abbrev pub verdictIn : Checked Stream → Checked (Unit {0})
+verdictIn found = mapped (λ (s : Stream). tt) found
 
 -- the state of a file that was recorded
 abbrev pub recordedPlayer : Header → CardTable → (uses : Bool) → StreamPlayer

@@ -11,7 +11,7 @@ ghost use mathlib.Core.Path.{_≡_};
 ghost use Rattle.base_format.specs.Rule.{verdictOf};
 ghost use Rattle.base_format.specs.State.{started};
 ghost use Rattle.base_format.specs.Stream.{read};
-ghost use Rattle.play_start.specs.Start.{recordedPlayer, verdictOn};
+ghost use Rattle.play_start.specs.Start.{recordedPlayer, verdictIn};
 
 // The verdict on the file, and the player's state. A refused file gives a finished state with recorded size 0.
 pub struct Started {
@@ -33,7 +33,7 @@ fn recorded(header: Header, cards: CardTable, uses_si22: bool) -> StreamPlayer
 }
 
 pub fn start(file: &[u8]) -> Started
-    ensures { λ r. ⌜ (verdictOf (r .verdict) ≡ verdictOn (read (now (file .entry)))) × (r .state ≡ started (now (file .entry))) ⌝ }
+    ensures { λ r. ⌜ (verdictOf (r .verdict) ≡ verdictIn (read (now (file .entry)))) × (r .state ≡ started (now (file .entry))) ⌝ }
 {
     let checked = check_file(file);
     let cards = checked.cards;

@@ -23,7 +23,7 @@ use Rattle.base_format.proofs.Accepted.{opening-limit}
 use Rattle.base_format.proofs.Checks.{through, passed-test, passed-check, ok-is, or-false}
 use Rattle.play_laws.proofs.Planned.{checked-25, records-fit}
 use Rattle.play_segments.specs.declared.place.Place.{Place}
-use Rattle.play_segments_first.specs.Begin.{nowhere, frameAt, openingPlace, betweenPlace, partPlace, firstPlace}
+use Rattle.play_segments_first.specs.First.{nowhere, frameAt, openingPlace, betweenPlace, partPlace, firstPlace}
 use Rattle.play_store_segment.specs.Segment.{inserted}
 use Rattle.play_store.specs.Stored.{storedFrom, storedCall}
 use Rattle.play_store.proofs.Storing.{stored-none}

@@ -17,7 +17,7 @@ use Rattle.base_format.specs.Writes.{write, upward, silence, closingWrites, clo
 use Rattle.base_format.proofs.Checks.{passed-test, ok-is}
 use Rattle.play_segments.specs.declared.place.Place.{Place}
 use Rattle.play_segments.specs.declared.place.Turn.{Turn}
-use Rattle.play_segments_first.specs.Begin.{closingFrom}
+use Rattle.play_segments_first.specs.First.{closingFrom}
 use Rattle.play_segments.specs.Closing.{zeroTo, closingSegment}
 use Rattle.play_segments.specs.Place.{stopped}
 use Rattle.play_segments.specs.Turn.{closingTurn, turn}

@@ -19,7 +19,7 @@ use Rattle.base_format.specs.State.{moved}
 use Rattle.base_format.specs.Stream.{openingLimit}
 use Rattle.base_format.proofs.Checks.{through, passed-test, ok-is}
 use Rattle.play_segments.specs.declared.place.Place.{Place}
-use Rattle.play_segments_first.specs.Begin.{nowhere, framePlace, frameAt, openingPlace}
+use Rattle.play_segments_first.specs.First.{nowhere, framePlace, frameAt, openingPlace}
 use Rattle.play_segments.specs.Place.{onward}
 use Rattle.play_segments.specs.Turn.{turn, operationTurn}
 use Rattle.play_segments.proofs.Decoded.{turns}

@@ -13,15 +13,15 @@ use Rattle.base_format.specs.declared.player.Progress.{Progress}
 use Rattle.base_format.specs.declared.player.StreamPlayer.{StreamPlayer}
 use Rattle.base_format.specs.Checked.{ok, _>>=_}
 use Rattle.base_format.specs.Operation.{Item}
-use Rattle.play_laws.specs.Pace.{countOf, addressOf}
+use Rattle.play_laws.specs.Plan.{countOf, addressOf}
 use Rattle.base_format.specs.Player.{itemUsed, bytesAt, Gathered, gathered}
 use Rattle.base_format.specs.Writes.{writesWith}
 use Rattle.base_format.proofs.Checks.{through, ok-is}
 use Rattle.play_laws.proofs.Address.{address-small, item-there}
-use Rattle.play_laws.proofs.Paced.{Writes, usable}
+use Rattle.play_laws.proofs.PlannedOperations.{Writes, usable}
 use Rattle.play_segments.specs.declared.place.Place.{Place}
 use Rattle.play_segments.specs.declared.place.Turn.{Turn}
-use Rattle.play_segments.specs.Operation.{unplayable, segmentOf}
+use Rattle.play_segments.specs.Operation.{unplayable, segmentFrom}
 use Rattle.play_segments.specs.Place.{stopped, onward}
 use Rattle.play_segments.specs.Turn.{turn}
 use Rattle.play_store_segment.specs.Segment.{inserted, segmentStored}
@@ -56,7 +56,7 @@ module _ (file : List ℕ) (state : StreamPlayer) (limit total : ℕ) (part : Pa
 
     -- the turn, and the run after it
     abbrev turnIs : (count : ℕ) → Place → Turn
-    turnIs count next = record { at = total - room; segment = segmentOf file directory (item .operation) (addressOf (item .operation) + done) done count; place = next }
+    turnIs count next = record { at = total - room; segment = segmentFrom file directory (item .operation) (addressOf (item .operation) + done) done count; place = next }
 
     after : (count : ℕ) (next : Place) → turn file state here ≡ turnIs count next → count ≤ length (restOf state file item done) → count ≤ room
         → storedFrom file state here run ≡ storedFrom file state next (inserted (total - room) (take count (restOf state file item done)) run)
@@ -90,17 +90,17 @@ module _ (file : List ℕ) (state : StreamPlayer) (limit total : ℕ) (part : Pa
             ∙ turn-goes file directory here (item .operation) (item .next) can (rw (part .done-is left cursor done room, part .room-is left cursor done room) (omega (arith, rest-long)))
             ∙ ap (λ (t : ℕ). record {
               at = t - here .room;
-              segment = segmentOf file directory (item .operation) (addressOf (item .operation) + here .done) (here .done) (countOf (item .operation) - here .done);
+              segment = segmentFrom file directory (item .operation) (addressOf (item .operation) + here .done) (here .done) (countOf (item .operation) - here .done);
               place = onward here (item .next) (countOf (item .operation) - here .done);
             }) (part .total-is left cursor done room)
             ∙ ap (λ (r : ℕ). record {
               at = total - r;
-              segment = segmentOf file directory (item .operation) (addressOf (item .operation) + here .done) (here .done) (countOf (item .operation) - here .done);
+              segment = segmentFrom file directory (item .operation) (addressOf (item .operation) + here .done) (here .done) (countOf (item .operation) - here .done);
               place = onward here (item .next) (countOf (item .operation) - here .done);
             }) (part .room-is left cursor done room)
             ∙ ap (λ (d : ℕ). record {
               at = total - room;
-              segment = segmentOf file directory (item .operation) (addressOf (item .operation) + d) d (countOf (item .operation) - d);
+              segment = segmentFrom file directory (item .operation) (addressOf (item .operation) + d) d (countOf (item .operation) - d);
               place = onward here (item .next) (countOf (item .operation) - d);
             }) (part .done-is left cursor done room)
             ∙ ap (λ (p : Place). turnIs (countOf (item .operation) - done) p) (part .goes left cursor done room (item .next) (countOf (item .operation) - done))

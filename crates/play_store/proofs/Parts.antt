@@ -15,12 +15,12 @@ use Rattle.base_format.specs.declared.player.StreamPlayer.{StreamPlayer}
 use Rattle.base_format.specs.declared.player.WaveSource.{WaveSource}
 use Rattle.base_format.specs.Checked.{ok, _>>=_}
 use Rattle.base_format.specs.Operation.{Item, itemAt}
-use Rattle.play_laws.specs.Pace.{countOf, addressOf}
+use Rattle.play_laws.specs.Plan.{countOf, addressOf}
 use Rattle.base_format.specs.Player.{settingIn, itemUsed, bytesAt, wavesBy, placed, Gathered, gathered}
 use Rattle.base_format.specs.Writes.{writesWith}
 use Rattle.base_format.proofs.Checks.{through, passed-test, ok-is}
 use Rattle.play_segments.specs.declared.place.Place.{Place}
-use Rattle.play_segments.specs.Operation.{unplayable, segmentOf}
+use Rattle.play_segments.specs.Operation.{unplayable, segmentFrom}
 use Rattle.play_segments.specs.Place.{stopped, onward}
 use Rattle.play_segments.specs.Turn.{turn, operationTurn}
 use Rattle.play_store_segment.specs.Segment.{inserted}
@@ -107,7 +107,7 @@ playable operation done h small =
 
 pub turn-stops : (file : List ℕ) (directory : ℕ) (place : Place) (operation : Operation) (next : ℕ) → unplayable operation (place .done) ≡ false
     → place .room ≤ countOf operation - place .done
-    → operationTurn file directory place operation next ≡ record { at = place .total - place .room; segment = segmentOf file directory operation (addressOf operation + place .done) (place .done) (place .room); place = stopped place }
+    → operationTurn file directory place operation next ≡ record { at = place .total - place .room; segment = segmentFrom file directory operation (addressOf operation + place .done) (place .done) (place .room); place = stopped place }
 unfolding operationTurn
 turn-stops file directory place operation next e h = rw (e, le-leb _ _ h)
 
@@ -115,7 +115,7 @@ pub turn-goes : (file : List ℕ) (directory : ℕ) (place : Place) (operation :
     → countOf operation - place .done < place .room
     → operationTurn file directory place operation next ≡ record {
       at = place .total - place .room;
-      segment = segmentOf file directory operation (addressOf operation + place .done) (place .done) (countOf operation - place .done);
+      segment = segmentFrom file directory operation (addressOf operation + place .done) (place .done) (countOf operation - place .done);
       place = onward place next (countOf operation - place .done);
     }
 unfolding operationTurn

@@ -12,7 +12,7 @@ use Rattle.base_format.specs.declared.operation.WriteRecord.{WriteRecord}
 use Rattle.base_format.specs.declared.player.StreamPlayer.{StreamPlayer}
 use Rattle.base_format.proofs.Checks.{positive}
 use Rattle.play_segments.specs.declared.place.Place.{Place}
-use Rattle.play_segments_first.specs.Begin.{firstPlace}
+use Rattle.play_segments_first.specs.First.{firstPlace}
 use Rattle.play_segments.specs.Turn.{turn}
 use Rattle.play_segments.proofs.Fewer.{turn-less}
 use Rattle.play_store_segment.specs.Segment.{segmentStored}

@@ -10,13 +10,13 @@ use Rattle.base_format.specs.declared.operation.Operation.{Operation}
 use Rattle.base_format.specs.declared.operation.Operation.the-variants.{Write, Fill, Copy}
 use Rattle.base_format.specs.declared.operation.WriteRecord.{WriteRecord}
 use Rattle.base_format.specs.Bytes.{byte, part}
-use Rattle.play_laws.specs.Pace.{countOf, addressOf, writeAt}
+use Rattle.play_laws.specs.Plan.{countOf, addressOf, writeAt}
 use Rattle.base_format.specs.Player.{bytesAt}
 use Rattle.base_format.specs.Pool.{poolAt}
 use Rattle.base_format.specs.Writes.{write, writesWith}
 use Rattle.base_format.proofs.Writes.{length-upward}
-use Rattle.play_laws.proofs.Paced.{Writes}
-use Rattle.play_segments.specs.Operation.{segmentOf}
+use Rattle.play_laws.proofs.PlannedOperations.{Writes}
+use Rattle.play_segments.specs.Operation.{segmentFrom}
 use Rattle.play_store_segment.specs.declared.Segment.{Segment}
 use Rattle.play_store_segment.specs.Segment.{recordsOf, inserted, segmentStored}
 use Rattle.play_store_segment.proofs.Segments.{valueAt, records-count, record-of, stored-all}
@@ -24,7 +24,7 @@ use Rattle.play_store_segment.proofs.Segments.{valueAt, records-count, record-o
 module _ (file : List ℕ) (directory done n : ℕ) where
   -- the segment of so many writes behind those that are done
   abbrev pub segmentAt : Operation → Segment
-  segmentAt operation = segmentOf file directory operation (addressOf operation + done) done n
+  segmentAt operation = segmentFrom file directory operation (addressOf operation + done) done n
 
   -- its bytes lie in the file
   within : (operation : Operation) → Writes file directory operation → done + n ≤ countOf operation → 0 < n → segmentAt operation .copied ≡ true → segmentAt operation .from + n ≤ length file

@@ -7,7 +7,7 @@ use lib.ListN.{length}
 use Rattle.base_format.specs.declared.operation.WriteRecord.{WriteRecord}
 use Rattle.base_format.specs.declared.player.StreamPlayer.{StreamPlayer}
 use Rattle.play_segments.specs.declared.place.Place.{Place}
-use Rattle.play_segments_first.specs.Begin.{firstPlace}
+use Rattle.play_segments_first.specs.First.{firstPlace}
 use Rattle.play_segments.specs.Turn.{turn}
 use Rattle.play_store_segment.specs.Segment.{segmentStored}
 

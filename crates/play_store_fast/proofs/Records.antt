@@ -10,7 +10,7 @@ use Rattle.base_format.specs.declared.card.CardTable.{CardTable}
 use Rattle.base_format.specs.declared.header.Header.{Header}
 use Rattle.base_format.specs.declared.operation.WriteRecord.{WriteRecord}
 use Rattle.base_format.specs.Lent.{stored}
-use Rattle.play_fast_part.specs.declared.Current.{Current}
+use Rattle.play_fast_part.specs.declared.PlayingPart.{PlayingPart}
 use Rattle.play_fast_part.specs.declared.Step.{Step}
 use Rattle.play_fast_plain.specs.Plain.{plainWrites}
 use Rattle.play_fast_plain.proofs.Writes.{writes-long}
@@ -38,7 +38,7 @@ no-fills file version from made run =
     let none : min (length run) 0 ≡ 0 = omega arith in
     rw none
 
-module _ (file : List ℕ) (header : Header) (cards : CardTable) (c : Current) (step : Step) where
+module _ (file : List ℕ) (header : Header) (cards : CardTable) (c : PlayingPart) (step : Step) where
   abbrev version : ℕ
   version = header .version
 

@@ -11,7 +11,7 @@ pub enum CopiedPool {
     Pool(u16),
 }
 
-fn pool_in(source: WaveSource) -> CopiedPool
+fn copied_pool(source: WaveSource) -> CopiedPool
     ensures { λ r. ⌜ copiedPoolOf r ≡ poolIn source ⌝ }
 {
     if source.copied {
@@ -28,7 +28,7 @@ pub fn wave_source(state: StreamPlayer, core: usize, channel: usize) -> CopiedPo
         if channel < 8 {
             let progress = state.progress;
             let i = core * 8 + channel;
-            return pool_in(progress.wave_sources[i]);
+            return copied_pool(progress.wave_sources[i]);
         }
     }
     CopiedPool::None

@@ -37,7 +37,7 @@ pub fn pcm_pool(pcm: usize) -> usize
 }
 
 // One FILL, if PCM was written and less than all of it.
-fn fill_count(pcm: usize) -> usize
+fn pcm_fill_count(pcm: usize) -> usize
     ensures { λ r. ⌜ (r ≡ length (pcmFill pcm)) × (r ≤ 1) ⌝ }
 {
     if pcm == 0 {
@@ -69,7 +69,7 @@ pub fn lay_out(records: usize, pcm: usize, waves: usize, size: usize) -> Layout
     let frames = opening + (fill_size(pcm) + (writes_size(cores) + copy_size(pcm)));
     Layout {
         pools,
-        operations: fill_count(pcm) + (cores + pcm_pool(pcm)),
+        operations: pcm_fill_count(pcm) + (cores + pcm_pool(pcm)),
         payloads,
         opening,
         frames,

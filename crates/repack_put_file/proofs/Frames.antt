@@ -12,14 +12,14 @@ use Rattle.base_master.specs.Uses.{MarkedFrames, framesBy}
 use Rattle.base_master.proofs.Numbered.{frames-by-is}
 use Rattle.base_master.proofs.Uses.{all-marked}
 use Rattle.repack_wave_table.specs.Table.{wavesIn}
-use Rattle.repack_put_frames.specs.Frames.{Lists}
+use Rattle.repack_put_frames.specs.Frames.{NotedLists}
 use Rattle.repack_layout.specs.Layout.{Known}
 
 module _ {file : List ℕ} {header : Header} {places spots numbers : List ℕ} {pcm waves uses size : ℕ} (known : Known file header places spots numbers pcm waves uses size) where
   abbrev start : ℕ
   start = 20 + header .«initial_count» * 5
 
-  pub lists : Lists spots numbers
+  pub lists : NotedLists spots numbers
   lists = let n = known .measured .noting in record { spots-size = n .spots-size; numbers-size = n .numbers-size; small = n .small }
 
   pub marked : MarkedFrames file spots 0 (header .«frame_count») start

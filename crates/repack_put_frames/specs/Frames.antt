@@ -5,7 +5,7 @@ use mathlib.Core.Path.{_≡_}
 use lib.ListN.{length, getD}
 
 -- their lengths; a number fits a pool's id
-pub record Lists (spots numbers : List ℕ) : Type 0 where
+pub record NotedLists (spots numbers : List ℕ) : Type 0 where
   pub spots-size : length spots ≡ 11469
   pub numbers-size : length numbers ≡ 11468
   pub small : (k : ℕ) → getD numbers k 0 ≤ 11468

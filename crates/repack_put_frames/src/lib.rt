@@ -21,7 +21,7 @@ ghost use Rattle.bytes_read.specs.Put.{put};
 ghost use Rattle.base_master.specs.Places.{framesEnd};
 ghost use Rattle.base_master.specs.Result.{pieceCount};
 ghost use Rattle.base_master.specs.Uses.{usesAt, Marked, MarkedFrames, piecesBy, frameBy, framesBy};
-ghost use Rattle.repack_put_frames.specs.Frames.{Lists};
+ghost use Rattle.repack_put_frames.specs.Frames.{NotedLists};
 
 // How many pieces were written, where the last one ends, and how many uses of waves there are up to there.
 pub struct Pieces {
@@ -31,7 +31,7 @@ pub struct Pieces {
 }
 
 // A noted place.
-fn wide(spot: u32) -> usize
+fn noted_place(spot: u32) -> usize
     ensures { λ r. ⌜ r ≡ spot ⌝ }
 {
     spot as usize
@@ -49,7 +49,7 @@ fn put_pieces(
     buffer: &mut [u8],
     at: usize,
 ) -> Pieces
-    requires { ⌜ Lists (now spots) (now numbers) × Marked (now file) (now spots) used count start × (0 < start) × (start + count * recordSize ≤ length (now file)) × (base ≤ 1)
+    requires { ⌜ NotedLists (now spots) (now numbers) × Marked (now file) (now spots) used count start × (0 < start) × (start + count * recordSize ≤ length (now file)) × (base ≤ 1)
         × (at + length (piecesBy (now numbers) base used (now file) count start) ≤ length (now buffer)) ⌝ }
     ensures { λ r. ⌜ (now (buffer .exit) ≡ put (piecesBy (now (numbers .entry)) base used (now (file .entry)) count start) at (now (buffer .entry)))
         × (r .count ≡ pieceCount (now (file .entry)) count start) × (r .next ≡ at + length (piecesBy (now (numbers .entry)) base used (now (file .entry)) count start))
@@ -63,7 +63,7 @@ fn put_pieces(
     let mut pieces: usize = 0;
     let mut uses = used;
     while 0 < left {
-        if wide(spots[uses]) == from {
+        if noted_place(spots[uses]) == from {
             let pool = base + numbers[uses] as usize;
             put_wave_copy(file, from, pool as u16, buffer, place);
             uses += 1;
@@ -96,7 +96,7 @@ fn put_frame(
     buffer: &mut [u8],
     at: usize,
 ) -> Pieces
-    requires { ⌜ Lists (now spots) (now numbers) × Marked (now file) (now spots) used (be 2 (now file) from) (from + 2)
+    requires { ⌜ NotedLists (now spots) (now numbers) × Marked (now file) (now spots) used (be 2 (now file) from) (from + 2)
         × (from + 2 + be 2 (now file) from * recordSize ≤ length (now file)) × (base ≤ 1)
         × (at + length (frameBy (now numbers) base used (now file) from) ≤ length (now buffer)) ⌝ }
     ensures { λ r. ⌜ (now (buffer .exit) ≡ put (frameBy (now (numbers .entry)) base used (now (file .entry)) from) at (now (buffer .entry)))
@@ -132,7 +132,7 @@ pub fn put_frames(
     buffer: &mut [u8],
     at: usize,
 )
-    requires { ⌜ Lists (now spots) (now numbers) × MarkedFrames (now file) (now spots) 0 count start × (framesEnd (now file) count start ≤ length (now file)) × (base ≤ 1)
+    requires { ⌜ NotedLists (now spots) (now numbers) × MarkedFrames (now file) (now spots) 0 count start × (framesEnd (now file) count start ≤ length (now file)) × (base ≤ 1)
         × (at + length (framesBy (now numbers) base 0 (now file) count start) ≤ length (now buffer)) ⌝ }
     ensures { λ _. ⌜ now (buffer .exit) ≡ put (framesBy (now (numbers .entry)) base 0 (now (file .entry)) count start) at (now (buffer .entry)) ⌝ }
 {

@@ -7,7 +7,7 @@ use native.Mathlib.Nat.{not-suc-le-zero, add-assoc, mod-lt}
 use native.Mathlib.Omega.{arith}
 use lib.Dec.{lit<}
 use Rattle.base_format.specs.Bytes.{byte, sameBytes}
-use Rattle.base_format.proofs.Same.{same-bytes}
+use Rattle.base_format.proofs.Equal.{same-bytes}
 use Rattle.base_master.specs.Places.{valuesAt, waveAt}
 use Rattle.repack_wave_hash.specs.Hash.{hashed, mixed, bucketAt}
 

@@ -29,18 +29,18 @@ pub fn same_wave(file: &[u8], a: usize, b: usize) -> bool
 }
 
 // A byte as a part of a hash.
-fn wide(x: u8) -> u64
+fn wide_byte(x: u8) -> u64
     ensures { λ r. ⌜ (r ≡ x) × (r < 256) ⌝ }
 {
     x as u64
 }
 
 // A hash with four bytes more.
-fn mix(hash: u64, a: u8, b: u8, c: u8, d: u8) -> u64
+fn mix_four(hash: u64, a: u8, b: u8, c: u8, d: u8) -> u64
     requires { ⌜ hash < 4294967296 ⌝ }
     ensures { λ r. ⌜ (r ≡ mixed hash a b c d) × (r < 4294967296) ⌝ }
 {
-    let four = wide(a) + wide(b) * 256 + wide(c) * 65536 + wide(d) * 16777216;
+    let four = wide_byte(a) + wide_byte(b) * 256 + wide_byte(c) * 65536 + wide_byte(d) * 16777216;
     (hash + four) * 1640531527 % 4294967296
 }
 
@@ -53,7 +53,7 @@ pub fn bucket(file: &[u8], at: usize) -> usize
     let mut left: usize = 64;
     let mut place = at;
     while 0 < left {
-        hash = mix(
+        hash = mix_four(
             hash,
             file[place + 4],
             file[place + 9],

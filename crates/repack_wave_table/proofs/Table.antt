@@ -14,7 +14,7 @@ use lib.ListN.{length, getD, take, set, replicate, length-set, length-map, lengt
 use lib.Seq.{take-suc, length-take-le, getD-set-same, getD-set-other, take-set-le}
 use Rattle.base_format.specs.Bytes.{sameBytes}
 use Rattle.base_format.specs.Repack.{isKnown, added, placeOf}
-use Rattle.base_format.proofs.Same.{same-bytes}
+use Rattle.base_format.proofs.Equal.{same-bytes}
 use Rattle.base_format.proofs.Known.{known-snoc, known-place, place-kept, place-new, place-none, place-few}
 use Rattle.base_master.specs.Places.{waveAt}
 use Rattle.repack_wave_hash.specs.Hash.{bucketAt}

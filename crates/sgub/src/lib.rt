@@ -1,5 +1,5 @@
 // The static library's surface: include/sgub.h declares these functions for C, rust/sgub for Rust. What an answer is as plain numbers
-// is in the crates `answers` and `pool_list`.
+// is in the crates sgub_answers and sgub_pool_list.
 mod comparison;
 mod player;
 mod pools;

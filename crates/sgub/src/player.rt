@@ -9,7 +9,7 @@ use play_wave_source::wave_source;
 ghost use mathlib.Core.Path.{_≡_};
 ghost use Rattle.base_format.specs.State.{started, waveSource};
 ghost use Rattle.base_format.specs.Stream.{read};
-ghost use Rattle.play_start.specs.Start.{verdictOn};
+ghost use Rattle.play_start.specs.Start.{verdictIn};
 ghost use Rattle.play_planned.specs.Vsync.{Advanced};
 ghost use Rattle.sgub.specs.Player.{startFields, sourceFields};
 
@@ -23,7 +23,7 @@ pub struct SgubStarted {
 
 #[no_mangle]
 pub extern "C" fn sgub_start(file: &[u8]) -> SgubStarted
-    ensures { λ r. ⌜ r ≡ startFields (verdictOn (read (now (file .entry)))) (started (now (file .entry))) ⌝ }
+    ensures { λ r. ⌜ r ≡ startFields (verdictIn (read (now (file .entry)))) (started (now (file .entry))) ⌝ }
 {
     let found = play_start::start(file);
     let player = found.state;

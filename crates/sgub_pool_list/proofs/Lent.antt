@@ -35,7 +35,7 @@ use denote.Exit.{yes}
 use denote.Signature.{plain}
 use Rattle.base_format.specs.Pool.{poolAt}
 use Rattle.sgub_pool_list.specs.declared.SgubPoolEntry.{SgubPoolEntry}
-use Rattle.sgub_pool_list.specs.Entries.{entryFields, entriesStored}
+use Rattle.sgub_pool_list.specs.Entries.{listedEntry, entriesStored}
 use Rattle.sgub_pool_list.proofs.Stored.{pasted, pasted-long, stored-long}
 use Rattle.sgub_pool_list.proofs.SgubPoolEntry as T
 use Rattle.sgub_pool_list.proofs.fitting as fi
@@ -181,8 +181,8 @@ module _ {M : Type 1} (𝓤 : URA M) (H : Heap 𝓤) (A : Atoms 𝓤) (mem : Mem
   said room cnt r = exE 𝓤 _ (λ ws. snd∗ 𝓤 (sem 𝓤 H A (lasts fi.ended tt (room, (cnt, tt)) ws)) (fact 𝓤 (r ≡ min room cnt)))
 
   pub said-nth : (κ : Lft) (f : RefT (List ℕ)) (dir i : ℕ) (r : SgubPoolEntry)
-      → ent 𝓤 (ensured 𝓤 H A ne.ended (ne.clauses 𝓤 H A mem run) (κ, tt) (f, (dir, (i, tt))) tt r) (fact 𝓤 (r ≡ entryFields (poolAt (f .now) dir i)))
-  said-nth κ f dir i r = exE 𝓤 _ (λ ws. snd∗ 𝓤 (sem 𝓤 H A (lasts ne.ended (κ, tt) (f, (dir, (i, tt))) ws)) (fact 𝓤 (r ≡ entryFields (poolAt (f .now) dir i))))
+      → ent 𝓤 (ensured 𝓤 H A ne.ended (ne.clauses 𝓤 H A mem run) (κ, tt) (f, (dir, (i, tt))) tt r) (fact 𝓤 (r ≡ listedEntry (poolAt (f .now) dir i)))
+  said-nth κ f dir i r = exE 𝓤 _ (λ ws. snd∗ 𝓤 (sem 𝓤 H A (lasts ne.ended (κ, tt) (f, (dir, (i, tt))) ws)) (fact 𝓤 (r ≡ listedEntry (poolAt (f .now) dir i))))
 
 -- what each callee's triple binds outside, and what the function owes
 module _ {M : Type 1} (𝓤 : URA M) (H : Heap 𝓤) (A : Atoms 𝓤) (mem : Memory → SProp 𝓤) (run : Routine → Fun 𝓤) (x : Lent) where

@@ -18,7 +18,7 @@ use Rattle.check_file.specs.Answer.{Recorded, recorded}
 use Rattle.check_pool_entry.specs.Entry.{entryOf}
 use Rattle.check_pool_lookup.proofs.Pools.{kind-found, payload-found}
 use Rattle.sgub_pool_list.specs.declared.SgubPoolEntry.{SgubPoolEntry}
-use Rattle.sgub_pool_list.specs.Entries.{entryFields, entriesFrom, entriesStored}
+use Rattle.sgub_pool_list.specs.Entries.{listedEntry, entriesFrom, entriesStored}
 use Rattle.sgub_pool_list.specs.Listing.{poolsOn, listingOn, poolsAfter}
 use Rattle.sgub_pool_list.proofs.Stored.{entries-long, entry-at}
 
@@ -42,7 +42,7 @@ module _ (file : List ℕ) (s : Stream) (accepted : read file ≡ ok s) (run : L
   abbrev entry : SgubPoolEntry
   entry = getD (poolsAfter file (recorded file .0) run) i d
 
-  listed : entry ≡ entryFields (poolAt file (headerOf file .«directory_offset») i)
+  listed : entry ≡ listedEntry (poolAt file (headerOf file .«directory_offset») i)
   unfolding entriesStored
   listed =
       let directory = headerOf file .«directory_offset» in
@@ -50,7 +50,7 @@ module _ (file : List ℕ) (s : Stream) (accepted : read file ≡ ok s) (run : L
       rw accepted (
       List·getD-append (entriesFrom file directory n 0) _ d i (rw (entries-long file directory n 0) less)
       ∙ entry-at file directory n 0 i d less
-      ∙ ap (λ (k : ℕ). entryFields (poolAt file directory k)) (zero-add i)
+      ∙ ap (λ (k : ℕ). listedEntry (poolAt file directory k)) (zero-add i)
       )
 
   known : entryOf file (headerOf file) i ≡ poolAt file (headerOf file .«directory_offset») i

@@ -8,7 +8,7 @@ use lib.ListN.{length, getD, set}
 use Rattle.base_format.specs.Pool.{poolAt}
 use Rattle.base_format.proofs.Lent as front
 use Rattle.sgub_pool_list.specs.declared.SgubPoolEntry.{SgubPoolEntry}
-use Rattle.sgub_pool_list.specs.Entries.{entryFields, entriesFrom, entriesStored}
+use Rattle.sgub_pool_list.specs.Entries.{listedEntry, entriesFrom, entriesStored}
 
 -- EACH OF THEM
 
@@ -17,12 +17,12 @@ unfolding entriesFrom
 entries-long file directory zero id = refl
 entries-long file directory (suc n) id = ap suc (entries-long file directory n (suc id))
 
-pub entry-at : (file : List ℕ) (directory n id i : ℕ) (d : SgubPoolEntry) → i < n → getD (entriesFrom file directory n id) i d ≡ entryFields (poolAt file directory (id + i))
+pub entry-at : (file : List ℕ) (directory n id i : ℕ) (d : SgubPoolEntry) → i < n → getD (entriesFrom file directory n id) i d ≡ listedEntry (poolAt file directory (id + i))
 unfolding entriesFrom
 entry-at file directory zero id i d less = absurd (omega (arith, less))
-entry-at file directory (suc n) id zero d less = ap (λ (k : ℕ). entryFields (poolAt file directory k)) (omega arith)
+entry-at file directory (suc n) id zero d less = ap (λ (k : ℕ). listedEntry (poolAt file directory k)) (omega arith)
 entry-at file directory (suc n) id (suc i) d less =
-    entry-at file directory n (suc id) i d (omega (arith, less)) ∙ ap (λ (k : ℕ). entryFields (poolAt file directory k)) (omega arith)
+    entry-at file directory n (suc id) i d (omega (arith, less)) ∙ ap (λ (k : ℕ). listedEntry (poolAt file directory k)) (omega arith)
 
 -- THE RUN AFTER SOME TURNS
 
@@ -42,10 +42,10 @@ module _ (file : List ℕ) (directory count : ℕ) (run : List SgubPoolEntry) wh
   pub pasted-long : (i : ℕ) → i ≤ n → length (pasted i) ≡ length run
   pasted-long i few = front.pasted-long entries run fits i (rw (entries-long file directory n 0) few)
 
-  pub pasted-next : (i : ℕ) → i < n → set (pasted i) i (entryFields (poolAt file directory i)) ≡ pasted (i + 1)
+  pub pasted-next : (i : ℕ) → i < n → set (pasted i) i (listedEntry (poolAt file directory i)) ≡ pasted (i + 1)
   pasted-next i less =
-      front.pasted-next entries run fits i (entryFields (poolAt file directory i)) (rw (entries-long file directory n 0) less)
-      (entry-at file directory n 0 i (entryFields (poolAt file directory i)) less ∙ ap (λ (k : ℕ). entryFields (poolAt file directory k)) (zero-add i))
+      front.pasted-next entries run fits i (listedEntry (poolAt file directory i)) (rw (entries-long file directory n 0) less)
+      (entry-at file directory n 0 i (listedEntry (poolAt file directory i)) less ∙ ap (λ (k : ℕ). listedEntry (poolAt file directory k)) (zero-add i))
 
   pub stored-is : pasted n ≡ entriesStored file directory count run
   unfolding entriesStored

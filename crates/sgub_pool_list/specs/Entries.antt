@@ -7,13 +7,13 @@ use Rattle.base_format.specs.Lent.{stored}
 use Rattle.base_format.specs.Pool.{poolAt}
 use Rattle.sgub_pool_list.specs.declared.SgubPoolEntry.{SgubPoolEntry}
 
-abbrev pub entryFields : Pool → SgubPoolEntry
-entryFields pool = record { kind = pool .kind; size = pool .size; offset = pool .offset }
+abbrev pub listedEntry : Pool → SgubPoolEntry
+listedEntry pool = record { kind = pool .kind; size = pool .size; offset = pool .offset }
 
 -- so many entries from an id on
 unfoldable pub entriesFrom : List ℕ → (directory count id : ℕ) → List SgubPoolEntry
 entriesFrom file directory zero id = []
-entriesFrom file directory (suc count) id = entryFields (poolAt file directory id) ∷ entriesFrom file directory count (suc id)
+entriesFrom file directory (suc count) id = listedEntry (poolAt file directory id) ∷ entriesFrom file directory count (suc id)
 
 -- they stand at the run's front, as many as it holds
 unfoldable pub entriesStored : List ℕ → (directory count : ℕ) → List SgubPoolEntry → List SgubPoolEntry

@@ -9,7 +9,7 @@ pub use listing::pool_listing;
 ghost use mathlib.Core.Path.{_≡_};
 ghost use Prim.Native.Nat.{_<_, _^_, min};
 ghost use Rattle.base_format.specs.Pool.{poolAt};
-ghost use Rattle.sgub_pool_list.specs.Entries.{entryFields, entriesStored};
+ghost use Rattle.sgub_pool_list.specs.Entries.{listedEntry, entriesStored};
 
 // An entry of the directory.
 #[repr(C)]
@@ -29,7 +29,7 @@ fn fitting(room: usize, count: u32) -> usize
 // The entry of a pool by its id.
 fn nth_entry(file: &[u8], directory: u32, id: usize) -> SgubPoolEntry
     requires { ⌜ id < 2 ^ 32 ⌝ }
-    ensures { λ r. ⌜ r ≡ entryFields (poolAt (now (file .entry)) directory id) ⌝ }
+    ensures { λ r. ⌜ r ≡ listedEntry (poolAt (now (file .entry)) directory id) ⌝ }
 {
     let pool = read_pool(file, directory, id as u32);
     SgubPoolEntry {

@@ -1,3 +1,3 @@
--- What the contracts of `vectors` cite.
-pub mod Added
+-- What the contracts of `test_vectors` cite.
+pub mod Counts
 pub mod Front

@@ -7,7 +7,7 @@ ghost use Prim.Native.Nat.{_+_, _*_, _%_, _^_, _<_};
 ghost use lib.ListN.{take};
 ghost use mir.Val.{boolByte};
 ghost use Rattle.base_format.specs.Bytes.{be};
-ghost use Rattle.test_vectors.specs.Added.{Added};
+ghost use Rattle.test_vectors.specs.Counts.{CountsWith};
 ghost use Rattle.test_vectors.specs.Front.{ReadFront};
 
 // The number that ends a list.
@@ -37,7 +37,7 @@ pub fn none() -> Counts
 // The counts behind an entry with so many answers.
 pub fn add(counts: Counts, same: u64, different: u64) -> Counts
     requires { ⌜ 0 < counts .left ⌝ }
-    ensures { λ r. ⌜ Added counts same different r ⌝ }
+    ensures { λ r. ⌜ CountsWith counts same different r ⌝ }
 {
     Counts {
         same: std::num::wrapping_add_u64(counts.same, same),
@@ -49,7 +49,7 @@ pub fn add(counts: Counts, same: u64, different: u64) -> Counts
 // The counts behind an entry with one answer.
 pub fn count(counts: Counts, same: bool) -> Counts
     requires { ⌜ 0 < counts .left ⌝ }
-    ensures { λ r. ⌜ Added counts (boolByte same) (boolByte (not same)) r ⌝ }
+    ensures { λ r. ⌜ CountsWith counts (boolByte same) (boolByte (not same)) r ⌝ }
 {
     add(counts, same as u64, !same as u64)
 }

@@ -14,7 +14,7 @@ use Rattle.base_format.specs.Bytes.{byte, be, bytesOfAll, u16}
 use Rattle.base_format.specs.Checked.{ok}
 use Rattle.base_format.specs.Limits.{Each, OperationFits, CardsFit, PoolFits, FrameFits}
 use Rattle.base_format.specs.Pool.{noPool, Payload}
-use Rattle.base_format.specs.Operation.{extras, Setting, addressWidth, sizeOf, fieldsAt, writeRules, fillRules, copyRules, allowed, operationAt, recordAt, itemAt}
+use Rattle.base_format.specs.Operation.{extras, Setting, addressWidth, sizeOf, opcodeOf, fieldsAt, writeRules, fillRules, copyRules, allowed, operationAt, recordAt, itemAt}
 use Rattle.base_format.specs.Stream.{operationsFrom, framesFrom}
 use Rattle.base_format.specs.Target.{targetOf, writeLimit}
 use Rattle.base_format.specs.Written.{operationFields, withoutFirst, itemBytes, operationsBytes, framesBytes}
@@ -56,12 +56,6 @@ allows setting pools for at (Copy target address id source size) fits =
       lt-leb (setting .pools) id (rw (for .count) (fits .known)),
       takes-passes what (getD pools id noPool) (setting .poolOf id) address source size (for .entries id (fits .known)) (fits .takes),
     )
-
--- the opcode of an operation
-abbrev pub opcodeOf : Operation → ℕ
-opcodeOf (Write target address value) = 0
-opcodeOf (Fill target address size value) = 1
-opcodeOf (Copy target address pool source size) = 2
 
 opcode-small : (operation : Operation) → opcodeOf operation ≤ 2
 opcode-small (Write target address value) = lit≤ tt

@@ -24,7 +24,7 @@ use Rattle.theorem_one_reading.proofs.Each.{each-map, each-append}
 use Rattle.base_format.proofs.Checks.{through, passed-test, ok-is}
 use Rattle.theorem_one_reading.proofs.Rewritten.{accepted}
 use Rattle.base_format.proofs.Compared.{reads-version}
-use Rattle.base_format.proofs.Same.{bytes-self, writes-self, core-append, played-append}
+use Rattle.base_format.proofs.Equal.{bytes-self, writes-self, core-append, played-append}
 use Rattle.base_format.proofs.Writes.{writes-append}
 use Rattle.theorem_one_reading.proofs.Written.{written-bytes}
 use Rattle.theorem_one_reading.proofs.Whole.{written-size, round-trip}

@@ -20,7 +20,7 @@ use Rattle.base_format.specs.Repack.{Piece, wave, single, pieces, isKnown, plac
 use Rattle.base_format.specs.Target.{targetOf}
 use Rattle.base_format.specs.Writes.{upward, writesWith, writesOf, writesOfAll}
 use Rattle.base_format.proofs.Known.{known-place}
-use Rattle.base_format.proofs.Same.{writes-self}
+use Rattle.base_format.proofs.Equal.{writes-self}
 use Rattle.theorem_one_reading.proofs.Waves.{PieceKnown, PieceFits, pieceWrites, piecesWrites, pieces-are}
 
 -- a record of the master, in the repacked file

@@ -11,7 +11,7 @@ use Rattle.base_format.specs.Listener.{vsyncsFrom, Listener, newListener}
 use Rattle.base_format.specs.Stream.{Stream}
 use Rattle.base_format.specs.Writes.{openingWrites, frameWrites, usesSi22, silence, closingWrites, closing, vsync}
 use Rattle.base_format.specs.Promises.{Agree}
-use Rattle.base_format.proofs.Same.{core-append, played-append}
+use Rattle.base_format.proofs.Equal.{core-append, played-append}
 use Rattle.theorem_same_sound.proofs.Heard.{heardVsyncs, between}
 
 -- two lists of writes that a listener cannot tell apart

@@ -12,7 +12,7 @@ use lib.Seq.{take-all}
 use Rattle.base_format.specs.declared.player.StreamPlayer.{StreamPlayer}
 use Rattle.base_format.specs.declared.operation.WriteRecord.{WriteRecord}
 use Rattle.base_format.specs.Checked.{Checked, ok, refused}
-use Rattle.base_format.specs.Listener.{Call, after, answers, sameCalls, reached, Admissible, ownFile, refusedFile, finishedState, AllAdmissible, completed, resting, begunNoFurther, callsFor, recordsFrom, vsyncRecords, underWayFrom, vsyncsFrom}
+use Rattle.base_format.specs.Listener.{Call, after, answers, sameCalls, reached, Admissible, ownFile, refusedBytes, finishedState, AllAdmissible, completed, resting, begunNoFurther, callsFor, recordsFrom, vsyncRecords, underWayFrom, vsyncsFrom}
 use Rattle.base_format.specs.Player.{Played, call}
 use Rattle.base_format.specs.Promises.{OwnFilePlays, EachVsync, CallsOfVsync}
 use Rattle.base_format.specs.State.{started}
@@ -124,7 +124,7 @@ module _ (file : List ℕ) (s : Stream) (accepted : read file ≡ ok s) where
       → Left last state k rest current (call state (c .file) (c .room) ∷ answers (after state (call state (c .file) (c .room))) calls) (reached (after state (call state (c .file) (c .room))) calls)
   answered c calls leaves last state k rest current holds (ownFile own) admissible =
       own-call c calls leaves last state k rest current holds (ap (λ (f : List ℕ). call state f (c .room)) own) admissible
-  answered c calls leaves last state k rest current holds (refusedFile e) admissible =
+  answered c calls leaves last state k rest current holds (refusedBytes e) admissible =
       kept calls leaves last state k rest current (call state (c .file) (c .room)) e holds admissible
   answered c calls leaves last state k rest current holds (finishedState e) admissible =
       own-call c calls leaves last state k rest current holds (finished-any state (c .file) file (c .room) e) admissible

@@ -13,7 +13,7 @@ use Rattle.base_format.specs.Listener.{answers, resting, recordsFrom, Listener,
 use Rattle.base_format.specs.Player.{Played, call}
 use Rattle.base_format.specs.Stream.{Stream}
 use Rattle.base_format.specs.Writes.{vsync}
-use Rattle.base_format.proofs.Same.{core-append, played-append}
+use Rattle.base_format.proofs.Equal.{core-append, played-append}
 
 -- ONE CALL
 

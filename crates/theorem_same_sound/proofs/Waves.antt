@@ -26,7 +26,7 @@ use Rattle.base_format.proofs.Checks.{ok-is}
 use Rattle.base_format.proofs.Rules.{copy-allowed}
 use Rattle.base_format.proofs.Steps.{operation-step, frame-step}
 use Rattle.play_laws.proofs.Used.{item-is, pool-is}
-use Rattle.play_laws.proofs.Paced.{wave-channel}
+use Rattle.play_laws.proofs.PlannedOperations.{wave-channel}
 use Rattle.theorem_same_sound.proofs.Course.{wavesOn, wavesByAll}
 use Rattle.theorem_same_sound.proofs.Gather.{own}
 

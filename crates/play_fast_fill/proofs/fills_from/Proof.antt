@@ -52,7 +52,7 @@ returns : tie.Need-returns Inv-loop μ-loop
 returns c =
     let l = c .before .before .before in
     let a = l .before .before .args in
-    rw (c .stopped .ensures, l .loop .inv, c .before .if1 .taken, fills-full (a .file .now) (a .width) (a .starts .now) (a .ends .now) (a .limit) (l .loop .others))
+    rw (c .stopped-at .ensures, l .loop .inv, c .before .if1 .taken, fills-full (a .file .now) (a .width) (a .starts .now) (a .ends .now) (a .limit) (l .loop .others))
 
 returns-2 : tie.Need-returns-2 Inv-loop μ-loop
 returns-2 c =
@@ -61,7 +61,7 @@ returns-2 c =
     let a = l .before .before .args in
     let past = count-past (a .file .now) (a .width) (a .starts .now) (a .ends .now) (a .limit) (l .loop .at) (sym (p .passes .ensures) ∙ c .before .if2 .taken) in
     let none : leb (countOn l) (l .loop .done) ≡ true = rw past (le-leb 0 (l .loop .done) (omega arith)) in
-    rw (l .loop .inv, fills-none (a .file .now) (a .width) (a .starts .now) (a .ends .now) (a .limit) (l .loop .others) (l .loop .free) (l .loop .at) (l .loop .done) (omega arith) (omega arith) none) (c .stopped2 .ensures)
+    rw (l .loop .inv, fills-none (a .file .now) (a .width) (a .starts .now) (a .ends .now) (a .limit) (l .loop .others) (l .loop .free) (l .loop .at) (l .loop .done) (omega arith) (omega arith) none) (c .stopped-at2 .ensures)
 
 window-requires : tie.Need-window-requires Inv-loop μ-loop
 window-requires c κs = omega (arith, whole c)
@@ -72,7 +72,7 @@ returns-3 c =
     let l = q .before .before .before .before .before .before in
     let a = l .before .before .args in
     let none : leb (countOn l) (l .loop .done) ≡ true = rw (said q, le-leb _ _ (c .before .if3 .taken)) in
-    rw (l .loop .inv, fills-none (a .file .now) (a .width) (a .starts .now) (a .ends .now) (a .limit) (l .loop .others) (l .loop .free) (l .loop .at) (l .loop .done) (omega arith) (omega arith) none) (c .stopped3 .ensures)
+    rw (l .loop .inv, fills-none (a .file .now) (a .width) (a .starts .now) (a .ends .now) (a .limit) (l .loop .others) (l .loop .free) (l .loop .at) (l .loop .done) (omega arith) (omega arith) none) (c .stopped-at3 .ensures)
 
 returns-4 : tie.Need-returns-4 Inv-loop μ-loop
 returns-4 c =
@@ -80,7 +80,7 @@ returns-4 c =
     let l = e .before .before .before .before .before .before .before in
     let a = l .before .before .args in
     let step = fills-step (a .file .now) (a .width) (a .starts .now) (a .ends .now) (a .limit) (l .loop .others) (l .loop .free) (l .loop .at) (l .loop .done) (omega arith) (omega arith) (taken e) in
-    rw (l .loop .inv, step, said (e .before), lt-ltb _ _ (c .before .if4 .taken)) (c .stopped4 .ensures)
+    rw (l .loop .inv, step, said (e .before), lt-ltb _ _ (c .before .if4 .taken)) (c .stopped-at4 .ensures)
 
 add-at : tie.Need-add-at Inv-loop μ-loop
 add-at c = omega (arith, whole (c .before .before .before .before .before), c .fill-size-in .ensures .1)
@@ -110,7 +110,7 @@ returns-5 c =
     let l = c .before .before in
     let a = l .before .before .args in
     let all : l .loop .others ≡ 0 = omega arith in
-    rw (c .stopped5 .ensures, l .loop .inv, all, fills-end (a .file .now) (a .width) (a .starts .now) (a .ends .now) (a .limit))
+    rw (c .stopped-at5 .ensures, l .loop .inv, all, fills-end (a .file .now) (a .width) (a .starts .now) (a .ends .now) (a .limit))
 
 pub fills-from-spec : {M : Type 1} → statement M
 fills-from-spec =

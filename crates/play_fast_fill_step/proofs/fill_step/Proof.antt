@@ -26,15 +26,15 @@ returns-3 c =
     let k = c .before .before .before in
     let t = k .before .before in
     let b = t .before in
-    simp (b .before .before .if1 .left, ← (b .byte-at .ensures), le-ltb _ _ (t .if2 .left), ← (k .before .operations-left .ensures .0), ← (k .pace-fills .ensures), c .before .if3 .taken, ← (c .no-step3 .ensures))
+    simp (b .before .before .if1 .left, ← (b .byte-at .ensures), le-ltb _ _ (t .if2 .left), ← (k .before .operations-left .ensures .0), ← (k .take-fills .ensures), c .before .if3 .taken, ← (c .no-step3 .ensures))
 
 fewer : (c : tie.After-struct-known2)
-    → (c .before .before .before .pace-fills .result .left ≤ c .before .before .before .before .operations-left .result)
-    × (c .before .before .before .pace-fills .result .room ≤ c .before .before .before .before .before .before .before .before .before .before .args .room)
+    → (c .before .before .before .take-fills .result .left ≤ c .before .before .before .before .operations-left .result)
+    × (c .before .before .before .take-fills .result .room ≤ c .before .before .before .before .before .before .before .before .before .before .args .room)
 fewer c =
     let k = c .before .before .before in
     let a = k .before .before .before .before .before .before .before .args in
-    fills-fewer (a .file .now) (a .version) (cardsOf (a .cards)) (a .current .limit) (k .before .operations-left .result) (a .room) (a .current .at .cursor) (a .current .at .«write_index») (k .pace-fills .result) (k .pace-fills .ensures)
+    fills-fewer (a .file .now) (a .version) (cardsOf (a .cards)) (a .playing .limit) (k .before .operations-left .result) (a .room) (a .playing .at .cursor) (a .playing .at .«write_index») (k .take-fills .result) (k .take-fills .ensures)
 
 sub-count : tie.Need-sub-count
 sub-count c = fewer c .1
@@ -48,7 +48,7 @@ returns-4 c =
     let k = c .before .before .before .before in
     let t = k .before .before in
     let b = t .before in
-    simp (b .before .before .if1 .left, ← (b .byte-at .ensures), le-ltb _ _ (t .if2 .left), ← (k .before .operations-left .ensures .0), ← (k .pace-fills .ensures), c .before .before .if3 .left, ← (c .step-to .ensures))
+    simp (b .before .before .if1 .left, ← (b .byte-at .ensures), le-ltb _ _ (t .if2 .left), ← (k .before .operations-left .ensures .0), ← (k .take-fills .ensures), c .before .before .if3 .left, ← (c .step-to .ensures))
 
 pub fill-step-spec : {M : Type 1} → statement M
 fill-step-spec =

@@ -1,6 +1,6 @@
 -- `under_way` tests the part, and for a frame whether the opening is over, as the definition does.
 use borrow.Author.Tests.{eq-eqb, ne-eqb}
-use Rattle.play_fast_part.specs.Current.{underWay}
+use Rattle.play_fast_part.specs.PlayingPart.{underWay}
 use borrow.Author.Needs.{needs}
 use Rattle.play_fast_part.proofs.under_way.Statement.{statement}
 use Rattle.play_fast_part.proofs.under_way.Tie as tie
@@ -11,13 +11,13 @@ returns c = simp (eq-eqb _ _ (c .before .before .before .if1 .taken), ← (c .be
 
 returns-2 : tie.Need-returns-2
 unfolding underWay
-returns-2 c = simp (ne-eqb _ _ (c .before .before .if1 .left), ne-eqb _ _ (c .before .if2 .taken), ← (c .no-current .ensures))
+returns-2 c = simp (ne-eqb _ _ (c .before .before .if1 .left), ne-eqb _ _ (c .before .if2 .taken), ← (c .no-playing-part .ensures))
 
 returns-3 : tie.Need-returns-3
 unfolding underWay
 returns-3 c =
     let t = c .before .before .before in
-    simp (ne-eqb _ _ (t .before .if1 .left), eq-eqb _ _ (t .if2 .left), c .before .if3 .taken, ← (c .no-current2 .ensures))
+    simp (ne-eqb _ _ (t .before .if1 .left), eq-eqb _ _ (t .if2 .left), c .before .if3 .taken, ← (c .no-playing-part2 .ensures))
 
 returns-4 : tie.Need-returns-4
 unfolding underWay

@@ -43,8 +43,8 @@ loop-holds c =
     let none = with-none (targetOf (a .version) []) (a .t2 .cards) (held (a .version) (a .t2)) in
     (omega arith, omega arith, rw (c .cards-in .ensures .0, none) (p .put-plain .ensures .0), rw (c .cards-in .ensures .0, none) (p .put-plain .ensures .1))
 
-put-card-requires : tie.Need-put-card-requires Inv-loop μ-loop
-put-card-requires c κs =
+put-card-ranges-requires : tie.Need-put-card-ranges-requires Inv-loop μ-loop
+put-card-ranges-requires c κs =
     let l = c .before .before .before .before in
     (rw (l .loop .inv .2) (length-starts _), rw (l .loop .inv .3) (length-ends _))
 
@@ -57,7 +57,7 @@ loop-again c =
     let i = l .loop .i - 1 in
     let back : i + 1 ≡ l .loop .i = omega arith in
     let next = with-next (targetOf v []) (t .cards) (held v t) i (omega arith) (omega (arith, eight t _ (s .good .1 .0))) in
-    (omega arith, omega arith, rw (c .put-card .ensures .0, l .loop .inv .2, next, back) (card-starts (stored v t (l .loop .i)) _), rw (c .put-card .ensures .1, l .loop .inv .3, next, back) (card-ends (stored v t (l .loop .i)) _))
+    (omega arith, omega arith, rw (c .put-card-ranges .ensures .0, l .loop .inv .2, next, back) (card-starts (stored v t (l .loop .i)) _), rw (c .put-card-ranges .ensures .1, l .loop .inv .3, next, back) (card-ends (stored v t (l .loop .i)) _))
 
 returns : tie.Need-returns Inv-loop μ-loop
 returns c =
@@ -71,4 +71,4 @@ returns c =
 pub address-ranges-spec : {M : Type 1} → statement M
 address-ranges-spec =
     tie.close
-    (tie.spec Inv-loop μ-loop put-plain-requires (search needs) loop-holds (search needs) (search needs) (search needs) put-card-requires (search needs) loop-again returns)
+    (tie.spec Inv-loop μ-loop put-plain-requires (search needs) loop-holds (search needs) (search needs) (search needs) put-card-ranges-requires (search needs) loop-again returns)

@@ -44,7 +44,7 @@ use denote.Triple.Walked.{says, Stays, stay-ref, stay-none-slice, gave-slice, wa
 use denote.Exit.{yes}
 use Rattle.base_format.specs.declared.operation.WriteRecord.{WriteRecord}
 use Rattle.base_format.specs.declared.player.StreamPlayer.{StreamPlayer}
-use Rattle.play_laws.specs.Pace.{planned}
+use Rattle.play_laws.specs.Plan.{planned}
 use Rattle.base_format.proofs.operation.WriteRecord as T
 use Rattle.base_format.proofs.player.StreamPlayer as P
 use Rattle.base_format.proofs.player.StreamPlayer.Laws as P′

@@ -1,6 +1,6 @@
 -- `between_place` goes by the part of what is next, as the definition does.
 use borrow.Author.Tests.{eq-eqb, ne-eqb}
-use Rattle.play_segments_first.specs.Begin.{betweenPlace}
+use Rattle.play_segments_first.specs.First.{betweenPlace}
 use borrow.Author.Needs.{needs}
 use Rattle.play_segments_first.proofs.between_place.Statement.{statement}
 use Rattle.play_segments_first.proofs.between_place.Tie as tie

@@ -1,7 +1,7 @@
 -- `play_segments_first::first_place` meets its contract: its test of the count decides that of `firstPlace`, and each call gives its case's place.
 use borrow.Author.Needs.{needs}
 use borrow.Author.Tests.{eq-eqb, ne-eqb}
-use Rattle.play_segments_first.specs.Begin.{firstPlace}
+use Rattle.play_segments_first.specs.First.{firstPlace}
 use Rattle.play_segments_first.proofs.first_place.Statement.{statement}
 use Rattle.play_segments_first.proofs.first_place.Tie as tie
 

@@ -5,7 +5,7 @@ use lib.ListN.{length}
 use native.Mathlib.Omega.{arith}
 use borrow.Author.Tests.{ltb-false}
 use borrow.Author.Needs.{needs}
-use Rattle.play_segments_first.specs.Begin.{frameAt}
+use Rattle.play_segments_first.specs.First.{frameAt}
 use Rattle.play_segments_first.proofs.frame_at.Statement.{statement}
 use Rattle.play_segments_first.proofs.frame_at.Tie as tie
 

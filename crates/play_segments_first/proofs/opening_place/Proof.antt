@@ -1,7 +1,7 @@
 -- `play_segments_first::opening_place` meets its contract: its test decides the definition's, and the frame's place is what `frame_at` gives.
 use borrow.Author.Needs.{needs}
 use borrow.Author.Tests.{eq-eqb, ne-eqb}
-use Rattle.play_segments_first.specs.Begin.{openingPlace}
+use Rattle.play_segments_first.specs.First.{openingPlace}
 use Rattle.play_segments_first.proofs.opening_place.Statement.{statement}
 use Rattle.play_segments_first.proofs.opening_place.Tie as tie
 

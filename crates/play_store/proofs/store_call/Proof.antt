@@ -1,5 +1,5 @@
 -- `store_call` meets its contract: a walk of its MIR, by hand. A loop with two calls: the covered `next_segment` gives a segment and the place behind
--- it, and `store_segment` stores it in the run, which is lent again for each call and comes back (`Again.antt` of `writes`). All that it knows of the
+-- it, and `store_segment` stores it in the run, which is lent again for each call and comes back (base_walk_laws, Again). All that it knows of the
 -- callees is that each meets its contract.
 use mathlib.Core.Path.{_≡_, refl, sym, _∙_, ap, subst}
 use Prim.Native.Nat.{ℕ, _<_, _^_}
@@ -51,7 +51,7 @@ use Rattle.base_format.proofs.player.StreamPlayer as Q
 use Rattle.base_format.proofs.player.StreamPlayer.Laws as Q′
 use Rattle.play_segments.specs.declared.place.Place.{Place}
 use Rattle.play_segments.specs.declared.place.Turn.{Turn}
-use Rattle.play_segments_first.specs.Begin.{firstPlace}
+use Rattle.play_segments_first.specs.First.{firstPlace}
 use Rattle.play_segments.specs.Turn.{turn}
 use Rattle.play_segments.proofs.Fewer.{turn-less}
 use Rattle.play_segments.proofs.place.Place as P

@@ -1,4 +1,4 @@
--- `store_step` meets its contract: a walk of its MIR, by hand. The run is lent again to `store_writes` and comes back (`Again.antt` of `writes`), and is then given to
+-- `store_step` meets its contract: a walk of its MIR, by hand. The run is lent again to `store_writes` and comes back (base_walk_laws, Again), and is then given to
 -- `store_fills` for good. All that the proof knows of the two is that each meets its contract.
 use mathlib.Core.Path.{_≡_, refl, _∙_, ap}
 use Prim.Native.Nat.{ℕ, _<_, _^_}

@@ -7,7 +7,7 @@ use Rattle.play_wave_source.proofs.wave_source.Tie as tie
 
 returns : tie.Need-returns
 unfolding waveSource
-returns c = rw (c .pool-in .ensures) (search decided)
+returns c = rw (c .copied-pool .ensures) (search decided)
 
 pub wave-source-spec : {M : Type 1} → statement M
 unfolding waveSource

@@ -38,11 +38,11 @@ abbrev μ-loop : tie.MeasureT-loop
 -- the noted place tells whether a wave starts
 starts-here : (c : tie.Then1 Inv-loop μ-loop)
     → startsWave (recordsAt (c .before .before .before .before .before .before .before .before .before .args .file .now) (c .before .before .before .before .loop .left) (c .before .before .before .before .loop .from)) ≡ true
-starts-here c = let l = c .before .before .before .before .loop in marked-starts (l .inv .4) (c .before .before .before .loop-test .taken) (omega arith) (sym (c .before .wide .ensures) ∙ c .if1 .taken)
+starts-here c = let l = c .before .before .before .before .loop in marked-starts (l .inv .4) (c .before .before .before .loop-test .taken) (omega arith) (sym (c .before .noted-place .ensures) ∙ c .if1 .taken)
 
 starts-not : (c : tie.Else1 Inv-loop μ-loop)
     → startsWave (recordsAt (c .before .before .before .before .before .before .before .before .before .args .file .now) (c .before .before .before .before .loop .left) (c .before .before .before .before .loop .from)) ≡ false
-starts-not c = unmarked-starts (c .before .before .before .before .loop .inv .4) (λ e. c .if1 .left (c .before .wide .ensures ∙ e))
+starts-not c = unmarked-starts (c .before .before .before .before .loop .inv .4) (λ e. c .if1 .left (c .before .noted-place .ensures ∙ e))
 
 long : (c : tie.Then1 Inv-loop μ-loop) → 256 ≤ c .before .before .before .before .loop .left
 long c = let l = c .before .before .before .before .loop in wave-long (c .before .before .before .before .before .before .before .before .before .args .file .now) (l .left) (l .from) (starts-here c)
@@ -72,11 +72,11 @@ loop-holds c =
     let p = c .before .before .before .before .pre in
     (refl, omega arith, omega arith, refl, p .1, starts (piecesBy (a .numbers .now) (a .base) (a .used) (a .file .now) (a .count) (a .start)) (a .at) (a .buffer .now) (p .5))
 
-mul-wide : tie.Need-mul-wide Inv-loop μ-loop
-mul-wide c = omega (arith, c .before .loop .inv .4 .few)
+mul-noted-place : tie.Need-mul-noted-place Inv-loop μ-loop
+mul-noted-place c = omega (arith, c .before .loop .inv .4 .few)
 
-element-copy-out-wide : tie.Need-element-copy-out-wide Inv-loop μ-loop
-element-copy-out-wide c = omega (arith, c .before .loop .inv .4 .few)
+element-copy-out-noted-place : tie.Need-element-copy-out-noted-place Inv-loop μ-loop
+element-copy-out-noted-place c = omega (arith, c .before .loop .inv .4 .few)
 
 mul-pool : tie.Need-mul-pool Inv-loop μ-loop
 mul-pool c = omega (arith, use-few c)
@@ -199,5 +199,5 @@ returns c =
 pub put-pieces-spec : {M : Type 1} → statement M
 put-pieces-spec =
     tie.close
-    (tie.spec Inv-loop μ-loop (search needs) (search needs) loop-holds mul-wide element-copy-out-wide (search needs) mul-pool element-copy-out-pool cast-pool add-pool cast-put-wave-copy
+    (tie.spec Inv-loop μ-loop (search needs) (search needs) loop-holds mul-noted-place element-copy-out-noted-place (search needs) mul-pool element-copy-out-pool cast-pool add-pool cast-put-wave-copy
     put-wave-copy-requires add-uses add-from sub-left add-place put-record-requires add-from-2 sub-left-2 add-place-2 add-pieces loop-less loop-again (search needs) returns)

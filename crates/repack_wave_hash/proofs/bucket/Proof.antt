@@ -18,7 +18,7 @@ loop-again : tie.Need-loop-again Inv-loop μ-loop
 loop-again c =
     let l = c .before .before .before .before .before .before .loop in
     let file = c .before .before .before .before .before .before .before .before .args .file .now in
-    (omega arith, omega arith, c .mix .ensures .1, l .inv .3 ∙ rw (hashed-next file (l .left) (l .place) (l .hash) (c .before .before .before .before .before .loop-test .taken), c .mix .ensures .0))
+    (omega arith, omega arith, c .mix-four .ensures .1, l .inv .3 ∙ rw (hashed-next file (l .left) (l .place) (l .hash) (c .before .before .before .before .before .loop-test .taken), c .mix-four .ensures .0))
 
 pub bucket-spec : {M : Type 1} → statement M
 unfolding bucketAt

@@ -46,7 +46,7 @@ use Rattle.base_format.specs.Pool.{poolAt}
 use Rattle.base_walk_laws.proofs.Body.{tail}
 use Rattle.base_walk_laws.proofs.Types.{bytes, word}
 use Rattle.sgub_pool_list.specs.declared.SgubPoolEntry.{SgubPoolEntry}
-use Rattle.sgub_pool_list.specs.Entries.{entryFields}
+use Rattle.sgub_pool_list.specs.Entries.{listedEntry}
 use Rattle.sgub_pool_list.proofs.Stored.{pasted-next, stored-is}
 use Rattle.sgub_pool_list.proofs.SgubPoolEntry as T
 use Rattle.sgub_pool_list.proofs.SgubPoolEntry.Laws as T′
@@ -115,7 +115,7 @@ module _ {M : Type 1} (𝓤 : URA M) (H : Heap 𝓤) (A : Atoms 𝓤) (W : Given
 
       module _ (i : Upto x) (less : i .0 < n x) where
         -- the entry is stored, and the turn ends
-        stores : (r : SgubPoolEntry) → r ≡ entryFields (poolAt (x .bs) (x .dir) (i .0)) → Is T.the-row r (LL.vals T.the-type T′.the-laws r)
+        stores : (r : SgubPoolEntry) → r ≡ listedEntry (poolAt (x .bs) (x .dir) (i .0)) → Is T.the-row r (LL.vals T.the-type T′.the-laws r)
             → Sq W (Got i r) (runs C Λ En (tail (tail (tail code.Mir.turn-1))) (anyQ (Turned i)))
         unfolding afterTurn
         stores r e is =
@@ -146,8 +146,8 @@ module _ {M : Type 1} (𝓤 : URA M) (H : Heap 𝓤) (A : Atoms 𝓤) (W : Given
             (and-then ! (load ! (from ! (stop !)) (look ! 24 refl)) (and-then ! (load ! (from ! (stop !)) (look ! 22 refl)) (and-then ! (load ! (from ! (stop !)) (look ! 16 refl)) (no-more !)))) (λ v.
             use1 W (later (some (λ (r : SgubPoolEntry). ((‵ (flft (x .κ₂) (x .q₂)) ⊛ ‵ ftrue) ⊛ ‵ (T.the-row .own r (v ∷ [])))
             ⊛ raw (ensured 𝓤 H A ne.ended (ne.clauses 𝓤 H A mem run) (x .κ₂, tt) (x₂ x, (x .dir, (i .0, tt))) tt r)))) (id⊢ 𝓤 _) $ await ! tt $ pick ! (λ r.
-            split ! $ move ! (1 ∷ []) $ use1 W (raw (fact 𝓤 (r ≡ entryFields (poolAt (x .bs) (x .dir) (i .0))))) (said-nth 𝓤 H A mem run (x .κ₂) (x₂ x) (x .dir) (i .0) r) $
-            heard ! (r ≡ entryFields (poolAt (x .bs) (x .dir) (i .0))) (λ e. split ! $ move ! (1 ∷ []) $
+            split ! $ move ! (1 ∷ []) $ use1 W (raw (fact 𝓤 (r ≡ listedEntry (poolAt (x .bs) (x .dir) (i .0))))) (said-nth 𝓤 H A mem run (x .κ₂) (x₂ x) (x .dir) (i .0) r) $
+            heard ! (r ≡ listedEntry (poolAt (x .bs) (x .dir) (i .0))) (λ e. split ! $ move ! (1 ∷ []) $
             peeks ! T.the-row (Is T.the-row) (shows 𝓤 H A T.the-row) r (v ∷ []) (λ is. drop ! $
             land ! (from ! (stop !)) (init ! 14 refl (LL.lawful T.the-type T′.the-laws 𝓤 H A W .typed r _ is .0)) $
             rewrite ! 14 (λ (z : Val). ‵ (fat fullShare T′.mir l₇ 0 z)) (ap only (LL.tells T.the-type T′.the-laws r _ is)) refl $

@@ -1,4 +1,4 @@
--- `targets::Target::outside` meets its contract: the tests that were taken decide it.
+-- `base_targets::Target::outside` meets its contract: the tests that were taken decide it.
 use borrow.Author.Needs.{needs}
 use Rattle.base_targets.proofs.Decided.{decided}
 use Rattle.base_targets.specs.Target.{outside}

@@ -5,7 +5,7 @@ use Rattle.base_format.specs.Rule.{verdictOf}
 use Rattle.check_tables.specs.Layout.{layoutFrom}
 use Rattle.check_file.specs.Walk.{behindTables}
 use Rattle.check_file.proofs.Reading.{header-is, cards-place}
-use Rattle.check_file.proofs.TableRow.{tables-passed, tables-refused}
+use Rattle.check_file.proofs.Tables.{tables-passed, tables-refused}
 use borrow.Author.Needs.{needs}
 use Rattle.check_file.proofs.check.check_behind_header.Statement.{statement}
 use Rattle.check_file.proofs.check.check_behind_header.Tie as tie
@@ -34,7 +34,7 @@ returns-2 c =
       tables-refused (verdictOf (read .result .verdict)) (layoutFrom header file) (read .result .cards) (behindTables file header) (cardsFrom file (header .«card_count») 48 0) _ _
           (read .ensures) (sym (c .before .before .before .before .check-layout .ensures) ∙ ap verdictOf (c .before .before .refusal .given .1)),
     )
-    (c .refused-file .ensures)
+    (c .refused-check .ensures)
 
 pub check-behind-header-spec : {M : Type 1} → statement M
 check-behind-header-spec = tie.close (tie.spec (search needs) (search needs) (search needs) (search needs) (search needs) (search needs) returns returns-2)

@@ -1,7 +1,7 @@
 -- `check_tables::layout::check_layout` meets its contract: the verdicts on cards, counts and directory are one row, and the rules 10 to 12 follow it.
 use mathlib.Core.Path.{_≡_}
 use Rattle.base_format.specs.Rule.{verdictOf}
-use Rattle.check_tables.proofs.TableRow.{tablesRow, layout-row}
+use Rattle.check_tables.proofs.Tables.{tablesRow, layout-row}
 use borrow.Author.Needs.{needs}
 use Rattle.check_tables.proofs.layout.check_layout.Statement.{statement}
 use Rattle.check_tables.proofs.layout.check_layout.Tie as tie

@@ -6,4 +6,4 @@ use Rattle.compare_images.proofs.master.draw_master.Tie as tie
 pub draw-master-spec : {M : Type 1} → statement M
 draw-master-spec =
     tie.close
-    (tie.spec (search needs) (search needs) (search needs) (λ c. rw (c .before .before .play-records .ensures, c .before .before .before .before .before .before .begin .ensures)))
+    (tie.spec (search needs) (search needs) (search needs) (λ c. rw (c .before .before .play-records .ensures, c .before .before .before .before .before .before .begin-image .ensures)))

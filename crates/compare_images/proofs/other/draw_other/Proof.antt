@@ -6,4 +6,4 @@ use Rattle.compare_images.proofs.other.draw_other.Tie as tie
 pub draw-other-spec : {M : Type 1} → statement M
 draw-other-spec =
     tie.close
-    (tie.spec (search needs) (search needs) (search needs) (λ c. rw (c .before .before .play-operations .ensures, c .before .before .before .before .before .before .begin .ensures)))
+    (tie.spec (search needs) (search needs) (search needs) (λ c. rw (c .before .before .play-operations .ensures, c .before .before .before .before .before .before .begin-image .ensures)))

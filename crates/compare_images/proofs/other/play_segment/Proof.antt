@@ -4,7 +4,7 @@ use borrow.Author.Needs.{needs}
 use native.Mathlib.Omega.{arith}
 use mathlib.Core.Path.{sym, _∙_}
 use borrow.Author.Tests.{ne-eqb}
-use Rattle.compare_segment.specs.Segments.{stepOf}
+use Rattle.compare_segment.specs.Segments.{sourceStep}
 use Rattle.compare_segment.proofs.Streams.{spread-fill}
 use Rattle.compare_image_bytes.proofs.Image.{copy-other, copy-past, copy-min}
 use Rattle.compare_images.proofs.other.play_segment.Statement.{statement}
@@ -13,12 +13,12 @@ use Rattle.compare_images.proofs.other.play_segment.Tie as tie
 returns : tie.Need-returns
 returns c =
     let a = c .before .before .before .before .args in
-    sym (copy-other (a .file .now) (a .image .now) (a .segment .target) (a .segment .address) (a .segment .source) (stepOf (a .segment .copied)) (a .segment .count) (ne-eqb _ _ (c .if1 .taken)))
+    sym (copy-other (a .file .now) (a .image .now) (a .segment .target) (a .segment .address) (a .segment .source) (sourceStep (a .segment .copied)) (a .segment .count) (ne-eqb _ _ (c .if1 .taken)))
 
 returns-2 : tie.Need-returns-2
 returns-2 c =
     let a = c .before .before .before .before .before .before .args in
-    rw (c .before .before .if1 .left) (sym (copy-past (a .file .now) (a .image .now) (a .segment .address) (a .segment .source) (stepOf (a .segment .copied)) (a .segment .count) (c .if2 .taken)))
+    rw (c .before .before .if1 .left) (sym (copy-past (a .file .now) (a .image .now) (a .segment .address) (a .segment .source) (sourceStep (a .segment .copied)) (a .segment .count) (c .if2 .taken)))
 
 returns-3 : tie.Need-returns-3
 returns-3 c =

@@ -2,7 +2,7 @@
 use native.Mathlib.Omega.{arith}
 use mathlib.Core.Path.{ap, _∙_}
 use Rattle.base_format.specs.Checked.{refuse}
-use Rattle.play_laws.specs.Pace.{planned}
+use Rattle.play_laws.specs.Plan.{planned}
 use Rattle.play_belongs.proofs.Belongs.{foreign-is}
 use Rattle.play_plan.proofs.Begins.{planned-foreign, planned-own}
 use Rattle.play_plan.proofs.call.plan_call.Statement.{statement}

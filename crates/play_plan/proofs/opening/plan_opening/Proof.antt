@@ -2,7 +2,7 @@
 use native.Mathlib.Omega.{arith}
 use borrow.Author.Tests.{eq-eqb, ne-eqb}
 use Prim.Native.Nat.{_-_}
-use Rattle.play_laws.specs.Pace.{planOpening}
+use Rattle.play_laws.specs.Plan.{planOpening}
 use Rattle.play_plan.proofs.Telling.{told-bind, told-behind}
 use mathlib.Core.Path.{ap}
 use Rattle.play_plan.specs.declared.taken.Taken.{Taken}
@@ -11,19 +11,19 @@ use Rattle.play_plan.proofs.opening.plan_opening.Tie as tie
 
 returns : tie.Need-returns
 unfolding planOpening
-returns c = rw (told-bind, ← (c .before .before .before .opening-limit .ensures), ← (c .before .before .pace .ensures .0), c .before .taken-by .ensures, c .if1 .taken)
+returns c = rw (told-bind, ← (c .before .before .before .opening-limit .ensures), ← (c .before .before .plan-operations .ensures .0), c .before .taken-by .ensures, c .if1 .taken)
 
 returns-2 : tie.Need-returns-2
 unfolding planOpening
 returns-2 c =
     let left = c .before in
     let taken = left .before .before .before in
-    let pace = taken .before in
-    rw (told-bind, ← (pace .before .opening-limit .ensures), ← (pace .pace .ensures .0), taken .taken-by .ensures, left .before .before .if1 .left, ← (left .operations-left .ensures .0), ne-eqb _ _ (c .if2 .taken))
+    let planned = taken .before in
+    rw (told-bind, ← (planned .before .opening-limit .ensures), ← (planned .plan-operations .ensures .0), taken .taken-by .ensures, left .before .before .if1 .left, ← (left .operations-left .ensures .0), ne-eqb _ _ (c .if2 .taken))
 
 behind-requires : tie.Need-behind-requires
 behind-requires c κs =
-    let pace = c .before .before .before .before .before .before in
+    let planned = c .before .before .before .before .before .before in
     omega (arith, ap (λ (t : Taken). t .count) (c .before .before .before .before .before .taken-by .ensures))
 
 returns-3 : tie.Need-returns-3
@@ -31,19 +31,19 @@ unfolding planOpening
 returns-3 c =
     let left = c .before .before .before in
     let taken = left .before .before .before in
-    let pace = taken .before in
-    let a = pace .before .before .before .args in
+    let planned = taken .before in
+    let a = planned .before .before .before .args in
     rw (
       told-bind,
-      ← (pace .before .opening-limit .ensures),
-      ← (pace .pace .ensures .0),
+      ← (planned .before .opening-limit .ensures),
+      ← (planned .plan-operations .ensures .0),
       left .before .before .if1 .left,
       ← (left .operations-left .ensures .0),
       eq-eqb _ _ (c .before .before .if2 .left),
       c .behind .ensures,
       taken .taken-by .ensures,
     )
-    (told-behind (a .state) (a .file .now) (a .room - pace .pace .result .room) (pace .pace .result .room) (a .state .header .«frame_start») (pace .pace .result .progress)
+    (told-behind (a .state) (a .file .now) (a .room - planned .plan-operations .result .room) (planned .plan-operations .result .room) (a .state .header .«frame_start») (planned .plan-operations .result .progress)
     (c .before .begin-frame .result) (c .before .begin-frame .ensures .0))
 
 pub plan-opening-spec : {M : Type 1} → statement M
