@@ -9,7 +9,7 @@ use std::process::{Child, Command, Output, Stdio};
 use std::thread;
 use std::time::{Duration, Instant, SystemTime};
 
-const RT_CALLS: &str = "rt check sgub\nrt staticlib sgub\n";
+const RT_CALLS: &str = "rt check base bytes\nrt staticlib sgub\n";
 const CARGO_CALL: &str = "cargo build --release --quiet --manifest-path rust/Cargo.toml \
                           --target-dir rust/target --package sgub-cli\n";
 
@@ -42,8 +42,9 @@ impl Outline {
         ] {
             outline.write(name, "");
         }
-        // Two crates make the library, and a third stands on it.
-        let crates = "# Crates\nbase:\nsgub: base io\n\ntheorem: sgub\n";
+        // sgub stands on two crates and on one of the kit's; the last one stands on sgub.
+        let crates =
+            "# Crates\nbase:\nbytes: base # numbers\nsgub: base bytes io\n\ntheorem: sgub\n";
         outline.write("crates.txt", crates);
         fs::create_dir(outline.root.join("bin")).unwrap();
         let programs = Path::new(env!("CARGO_MANIFEST_DIR")).join("tests/launcher");
@@ -56,7 +57,9 @@ impl Outline {
         }
         // A file that this process wrote itself could not be run while another test starts a process.
         let copied = Command::new("cp")
-            .args([&root().join("sgub"), &outline.root])
+            .args(["--recursive", "sgub", "tools"])
+            .arg(&outline.root)
+            .current_dir(root())
             .status();
         assert!(copied.unwrap().success());
         outline
@@ -253,7 +256,7 @@ fn a_failed_build_shows_its_log() {
     let log = outline.root.join("target/launcher/rt-check.log");
     let messages = format!(
         "{BUILDING}not proved\n\
-         sgub: could not run: the proved library cannot be built; the lines above are {}\n",
+         sgub: could not run: the proved library cannot be built; {} has all that was said\n",
         log.display()
     );
     expect(&output, 2, "", &messages);
@@ -321,6 +324,9 @@ fn the_next_launcher_waits_for_what_a_killed_one_started() {
     assert!(said(&next).starts_with("sgub: another ./sgub is building; waiting for it ..\n"));
     assert!(!folder.exists());
     let calls = outline.take_calls();
-    assert_eq!(calls, format!("rt check sgub\n{RT_CALLS}{CARGO_CALL}"));
+    assert_eq!(
+        calls,
+        format!("rt check base bytes\n{RT_CALLS}{CARGO_CALL}")
+    );
     drop(killed);
 }
