@@ -17,7 +17,7 @@ pub record Row : Type 0 where
   pub found : List ℕ
   pub expected : List ℕ
 
--- an answer as numbers: a refusal's number and place, or 0 and the numbers of what was saysAccepted
+-- an answer as numbers: a refusal's number and place, or 0 and the numbers of what was accepted
 abbrev pub answer : Checked (List ℕ) → List ℕ
 answer (ok numbers) = 0 ∷ numbers
 answer (refused number place) = number ∷ place ∷ []
@@ -83,7 +83,7 @@ table =
     record { found = verdict []; expected = saysRefused 1 0 }
     -- P2 "the four letters alone: 1"
     ∷ record { found = verdict (bytesOf 4 letters); expected = saysRefused 1 0 }
-    -- P3 "saysAccepted, one empty frame"
+    -- P3 "accepted, one empty frame"
     ∷ record { found = verdict empty; expected = saysAccepted 1 1 0 }
     -- P4 "frame count 0: 8"
     ∷ record { found = verdict (set empty 11 0); expected = saysRefused 8 0 }

@@ -17,7 +17,7 @@ use Rattle.check_fast.specs.Run.{runFrom, recordTest, operationTest, has
 use Rattle.check_fast.proofs.Items.{setting, record-steps, operation-steps}
 use Rattle.check_fast.proofs.Runs.{ran}
 
--- what is left leftBehind a run
+-- what is left behind a run
 abbrev pub leftBehind : (version : ℕ) → List CardRequirement → (pools directory : ℕ) → List ℕ → (limit : ℕ) → QuickRun → Checked (ℕ × Bool)
 leftBehind version cards pools directory file limit run =
     walkedWith (run .si22) (setting version cards pools directory file) file limit (run .left) (run .at)

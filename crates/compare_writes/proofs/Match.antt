@@ -83,7 +83,7 @@ module _ (all : Bool) (master other : List ℕ) where
         → matched all master other left at target address source step count ≡ matched all master other (left - 1) (at + recordSize) target address source step count
     matched-skip k = matched-step left at target address source step count some some′ ∙ rw k
 
-  -- the records ifBehind are the last ones
+  -- the records behind are the last ones
   pub matched-place : (left at target address source step count at′ left′ : ℕ)
       → matched all master other left at target address source step count ≡ run.Behind at′ left′ → at′ + left′ * recordSize ≡ at + left * recordSize
   unfolding matched
@@ -108,7 +108,7 @@ module _ (all : Bool) (master other : List ℕ) where
       go true false one two e = absurd (let z : _≡_ {A = ℕ} 0 1 = cc in omega arith)
       go false s one two e = omega (arith, two e)
 
-  -- records ifBehind a match against the writes ifBehind a segment
+  -- records behind a match against the writes behind a segment
   abbrev rest-same : (rest : List WriteRecord) → ℕ → ℕ → Bool
   rest-same rest left at = sameWrites (kept all (recordWrites master left at)) (kept all rest)
 
@@ -143,7 +143,7 @@ module _ (all : Bool) (master other : List ℕ) where
 
 -- RECORDS AGAINST OPERATIONS
 
--- ifBehind an operation
+-- behind an operation
 operation-is : (all : Bool) (master other : List ℕ) (rest : List WriteRecord) (segment : Segment) (left at : ℕ)
     → rest-same all master other (segmentWrites other segment ++ rest) left at ≡ ifBehind (matchedOperation all master other left at segment) (rest-same all master other rest) false
 unfolding matchedOperation

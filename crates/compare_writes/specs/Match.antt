@@ -23,7 +23,7 @@ abbrev pub kept : (all : Bool) → List WriteRecord → List WriteRecord
 kept true writes = writes
 kept false writes = coreWrites writes
 
--- so many records from a place against so many writes of a segment: the records ifBehind them, or that they differ
+-- so many records from a place against so many writes of a segment: the records behind them, or that they differ
 unfoldable pub matched : (all : Bool) → (master other : List ℕ) → (left at target address source step count : ℕ) → Run
 matched all master other left at target address source step zero = run.Behind at left
 matched all master other zero at target address source step (suc count) = run.Differs
@@ -52,7 +52,7 @@ unfoldable pub matchedPart : (all : Bool) → (master other : List ℕ) → (dir
 matchedPart all master other directory left at count from =
     cond (samePart all master other directory left at count from) (part.Same (operationsStop other directory count from)) part.Differs
 
--- what the records ifBehind a match are compared with
+-- what the records behind a match are compared with
 abbrev pub ifBehind : {A : Type 0} → Run → (ℕ → ℕ → A) → A → A
 ifBehind (run.Behind at left) next none = next left at
 ifBehind run.Differs next none = none

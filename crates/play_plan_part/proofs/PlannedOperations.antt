@@ -15,7 +15,7 @@ use Rattle.play_plan_part.specs.Told.{wavesNow, Start, itemStart}
 use Rattle.play_plan_item.specs.Used.{itemUsedBy}
 use Rattle.play_plan_item.proofs.Sheet.{used-as25}
 
--- what is left to do once an operation is itemStart
+-- what is left to do once an operation is begun
 abbrev pub behindStart : StreamPlayer → List ℕ → (limit left room : ℕ) → Progress → Start → Checked (ℕ × Progress)
 behindStart state file limit left room p s =
     cond (ltb room (s .rest)) (ok (0, placed p (p .cursor) (p .«operation_index») (p .«write_index» + room) (s .waves)))

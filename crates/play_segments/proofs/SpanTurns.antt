@@ -20,7 +20,7 @@ use Rattle.play_item_span.specs.Span.{spanOf, spanFrom}
 use Rattle.play_segments.specs.SpanTurn.{spanEnded, fitted, spanSegment, placeBehind, spanTurn}
 use Rattle.play_segments.specs.Turn.{halted, operationTurn, turnOf}
 
--- what holds where the writes have not spanEnded
+-- what holds where the writes have not ended
 pub goes-on : (span : Span) (done : ℕ) → spanEnded span done ≡ false → (done ≤ span .count) × (span .address + done ≤ 0xFFFFFFFF)
 unfolding spanEnded
 goes-on span done e =

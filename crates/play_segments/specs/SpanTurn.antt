@@ -17,16 +17,16 @@ spanEnded span done = not (span .known) || ltb (span .count) done || ltb 0xFFFFF
 abbrev pub fitted : (room rest : ℕ) → ℕ
 fitted room rest = cond (leb room rest) room rest
 
--- where the copied bytes begin placeBehind those that are done
+-- where the copied bytes begin behind those that are done
 abbrev pub fromBehind : Span → (done : ℕ) → ℕ
 fromBehind span done = cond (span .copied) (span .offset + (span .source + done)) 0
 
--- so many writes placeBehind those that are done
+-- so many writes behind those that are done
 abbrev pub spanSegment : Span → (done count : ℕ) → Segment
 spanSegment span done count =
     record { target = span .target; address = span .address + done; count = count; copied = span .copied; value = span .value; from = fromBehind span done }
 
--- the place placeBehind so many writes; with no room placeBehind them nothing is left
+-- the place behind so many writes; with no room behind them nothing is left
 abbrev pub placeBehind : Place → (next rest : ℕ) → Place
 placeBehind place next rest = cond (leb (place .room) rest) (stopped place) (onward place next rest)
 

@@ -1,4 +1,4 @@
-// One segment of a call's records, and the place placeBehind it. A turn of an operation is made at one place: the count and the place placeBehind
+// One segment of a call's records, and the place behind it. A turn of an operation is made at one place: the count and the place behind
 // the segment are chosen first.
 use crate::closing::closing_segment;
 use crate::place::Place;
@@ -73,7 +73,7 @@ fn fitted(room: usize, rest: usize) -> usize
     rest
 }
 
-// Where the copied bytes begin placeBehind so many.
+// Where the copied bytes begin behind so many.
 fn from_behind(span: Span, done: u32) -> usize
     ensures { λ r. ⌜ r ≡ fromBehind span done ⌝ }
 {
@@ -83,7 +83,7 @@ fn from_behind(span: Span, done: u32) -> usize
     0
 }
 
-// The place placeBehind so many writes; with no room placeBehind them nothing is left.
+// The place behind so many writes; with no room behind them nothing is left.
 fn place_behind(place: Place, next: usize, rest: usize) -> Place
     ensures { λ r. ⌜ r ≡ placeBehind place next rest ⌝ }
 {

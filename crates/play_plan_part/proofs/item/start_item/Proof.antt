@@ -1,4 +1,4 @@
--- `play_plan_part::item::start_item` meets its contract: its tests decide those of `started`; the writes made and those left are the count, a u32.
+-- `play_plan_part::item::start_item` meets its contract: its tests decide those of `itemStart`; the writes made and those left are the count, a u32.
 use borrow.Author.Needs.{needs}
 use native.Mathlib.Omega.{arith}
 use borrow.Author.Tests.{lt-ltb, le-ltb}

@@ -1,4 +1,4 @@
--- `play_plan_part::operations::plan_operations` meets its contract. The loop's invariant: pacing what is left from here is pacing all; each turn leaves one fewer.
+-- `play_plan_part::operations::plan_operations` meets its contract. The loop's invariant: planning what is left from here is planning all; each turn leaves one fewer.
 use borrow.Author.Needs.{needs}
 use native.Mathlib.Omega.{arith}
 use borrow.Author.Tests.{lt-ltb, le-ltb}
