@@ -75,14 +75,17 @@ fn each_number_has_a_rule_a_place_and_commands() {
     }
 }
 
-/// `explain FILE` has the words of `explain NUMBER`.
+/// `explain FILE` has the line of `check FILE` and the words of `explain NUMBER`.
 #[test]
 fn a_refused_file_has_the_words_of_its_number() {
-    for (number, place) in [(6, 0), (7, 80), (14, 424), (16, 20), (19, 327)] {
+    for number in 1..=20 {
         let file = format!("examples/refused-{number}.sgub");
-        let output = sgub(["explain", &file]).output().unwrap();
-        let text = String::from_utf8(output.stdout).unwrap();
-        let head = format!("refused {number} {place}\n\n{}\n", rule(number).0);
+        let [line, text] = ["check", "explain"].map(|command| {
+            let output = sgub([command, &file]).output().unwrap();
+            String::from_utf8(output.stdout).unwrap()
+        });
+        assert!(line.starts_with(&format!("refused {number} ")), "{line}");
+        let head = format!("{line}\n{}\n", rule(number).0);
         assert!(text.starts_with(&head), "{text}");
     }
 }

@@ -9,6 +9,7 @@ mod launcher;
 mod play;
 mod repack;
 mod result;
+mod rules;
 mod usage;
 
 use std::ffi::OsStr;

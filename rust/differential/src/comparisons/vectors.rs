@@ -106,12 +106,28 @@ fn mixed(memory: &[u8]) -> u32 {
     stored::mixed(memory.iter().copied().map(u32::from))
 }
 
+/// The examples of the repository that stand beside each other in the pairs.
+const EXAMPLES: [&str; 12] = [
+    "empty-1",
+    "empty-2",
+    "empty-4",
+    "tune-1",
+    "tune-2",
+    "bank-3",
+    "cards-4",
+    "refused-6",
+    "refused-7",
+    "refused-14",
+    "refused-16",
+    "refused-19",
+];
+
 /// The sheet's and the repository's examples beside each other, and pairs that have all of PCM memory in the other file.
 fn chosen() -> Vec<[Vec<u8>; 2]> {
     let rows = sheet::rows().into_iter().map(|row| row.file);
-    let files: Vec<Vec<u8>> = examples::all()
+    let files: Vec<Vec<u8>> = EXAMPLES
         .into_iter()
-        .map(|example| example.file)
+        .map(examples::example)
         .filter(|file| file.len() <= LONGEST)
         .chain(rows)
         .collect();

@@ -55,7 +55,7 @@ pub fn choose(count: usize, seed: u64) -> Result<Vec<Vector>, String> {
     Ok(vectors)
 }
 
-/// What the issue asks for by name: the sheet's examples (P3, of which P7 is the result, and P11), no waves, one wave twice,
+/// What repacking must tell apart: the sheet's examples (P3, of which P7 is the result, and P11), no waves, one wave twice,
 /// all waves different, alike in front and behind, PCM of 1 byte and of as many as fit, and PCM writes in frames.
 fn chosen() -> Vec<Vec<u8>> {
     let mut files: Vec<Vec<u8>> = sheet::rows().into_iter().map(|row| row.file).collect();

@@ -1,6 +1,7 @@
 //! The files of `examples/`, made from values.
 
-use crate::generators::mutate;
+mod refused;
+
 use crate::model::{Card, FIRST_SLOT, Operation, PCM, Pool, SI22, Stream, WAVE};
 use crate::oracle;
 
@@ -20,21 +21,17 @@ pub fn all() -> Vec<Example> {
     let example = |name, file| Example { name, file };
     let tune = tune().to_bytes();
     let repacked = oracle::repack(&tune).expect("the original repacks an accepted master");
-    let cut_off = cut_off(&repacked);
-    vec![
+    let mut examples = vec![
         example("empty-1", Stream::empty_frame(1).to_bytes()),
         example("empty-2", Stream::empty_frame(2).to_bytes()),
         example("empty-4", Stream::empty_frame(4).to_bytes()),
         example("tune-1", tune),
-        example("tune-2", repacked),
+        example("tune-2", repacked.clone()),
         example("bank-3", bank().to_bytes()),
         example("cards-4", cards().to_bytes()),
-        example("refused-6", period_too_short().to_bytes()),
-        example("refused-7", equal_slots().to_bytes()),
-        example("refused-14", cut_off),
-        example("refused-16", record_too_high().to_bytes()),
-        example("refused-19", copy_off_its_place().to_bytes()),
-    ]
+    ];
+    examples.extend(refused::all(&repacked));
+    examples
 }
 
 /// The file of a name.
@@ -122,52 +119,6 @@ fn cards() -> Stream {
             ],
         ],
         ..Stream::empty_frame(4)
-    }
-}
-
-/// Version 4 with a period one below the least.
-fn period_too_short() -> Stream {
-    Stream {
-        period: 47_999,
-        ..Stream::empty_frame(4)
-    }
-}
-
-/// Version 4 with two cards for one slot.
-fn equal_slots() -> Stream {
-    Stream {
-        cards: vec![card(2, b"A", 0, 0), card(2, b"B", 0, 0)],
-        ..Stream::empty_frame(4)
-    }
-}
-
-/// The file without its last three bytes, and with a total size that says so.
-fn cut_off(file: &[u8]) -> Vec<u8> {
-    let mut shorter = Vec::new();
-    mutate::truncate(file, file.len() - 3, true, &mut shorter);
-    shorter
-}
-
-/// Version 1 with a record one behind a core's last register.
-fn record_too_high() -> Stream {
-    Stream {
-        opening: vec![Operation::write(0, 0x900, 0)],
-        ..Stream::empty_frame(1)
-    }
-}
-
-/// Version 2 with a COPY of a wave to an address that is no multiple of 256, behind one that is.
-fn copy_off_its_place() -> Stream {
-    Stream {
-        pools: vec![Pool {
-            kind: 1,
-            payload: triangle(),
-        }],
-        opening: vec![
-            Operation::copy(0, 0x100, 0, 0, WAVE),
-            Operation::copy(0, 0x180, 0, 0, WAVE),
-        ],
-        ..Stream::empty_frame(2)
     }
 }
 
