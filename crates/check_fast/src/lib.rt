@@ -3,8 +3,6 @@
 mod item;
 mod run;
 
-pub use item::quick_operation;
-pub use item::quick_record;
 pub use run::QuickRun;
 pub use run::either;
 pub use run::quick_run;

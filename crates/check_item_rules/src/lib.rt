@@ -6,4 +6,3 @@ mod rules;
 pub use allowed::OperationRead;
 pub use allowed::allow;
 pub use allowed::target_number;
-pub use rules::copy_wrong;

@@ -12,7 +12,8 @@ use lib.Seq.{take-all}
 use Rattle.base_format.specs.declared.player.StreamPlayer.{StreamPlayer}
 use Rattle.base_format.specs.declared.operation.WriteRecord.{WriteRecord}
 use Rattle.base_format.specs.Checked.{Checked, ok, refused}
-use Rattle.base_format.specs.Listener.{Call, after, answers, sameCalls, reached, Admissible, ownFile, refusedBytes, finishedState, AllAdmissible, completed, resting, begunNoFurther, callsFor, recordsFrom, vsyncRecords, underWayFrom, vsyncsFrom}
+use Rattle.base_format.specs.Listener.{Admissible, ownFile, refusedBytes, finishedState, AllAdmissible}
+use Rattle.base_format.specs.Listener.{Call, after, answers, sameCalls, reached, completed, resting, begunNoFurther, callsFor, recordsFrom, vsyncRecords, underWayFrom, vsyncsFrom}
 use Rattle.base_format.specs.Player.{Played, call}
 use Rattle.base_format.specs.Promises.{OwnFilePlays, EachVsync, CallsOfVsync}
 use Rattle.base_format.specs.State.{started}

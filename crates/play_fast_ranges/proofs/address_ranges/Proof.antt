@@ -57,7 +57,8 @@ loop-again c =
     let i = l .loop .i - 1 in
     let back : i + 1 ≡ l .loop .i = omega arith in
     let next = with-next (targetOf v []) (t .cards) (held v t) i (omega arith) (omega (arith, eight t _ (s .good .1 .0))) in
-    (omega arith, omega arith, rw (c .put-card-ranges .ensures .0, l .loop .inv .2, next, back) (card-starts (stored v t (l .loop .i)) _), rw (c .put-card-ranges .ensures .1, l .loop .inv .3, next, back) (card-ends (stored v t (l .loop .i)) _))
+    let card = c .put-card-ranges .ensures in
+    (omega arith, omega arith, rw (card .0, l .loop .inv .2, next, back) (card-starts (stored v t (l .loop .i)) _), rw (card .1, l .loop .inv .3, next, back) (card-ends (stored v t (l .loop .i)) _))
 
 returns : tie.Need-returns Inv-loop μ-loop
 returns c =

@@ -8,7 +8,8 @@ returns : tie.Need-returns
 unfolding layoutOf
 returns c =
     let sizes = c .before .before in
-    rw (c .pcm-pool2 .ensures .0, c .before .pcm-fill-count .ensures .0, sizes .copy-size .ensures .0, sizes .before .writes-size .ensures .0, sizes .before .before .fill-size .ensures .0, sizes .before .before .before .pcm-pool .ensures .0)
+    let fill = sizes .before .before in
+    rw (c .pcm-pool2 .ensures .0, c .before .pcm-fill-count .ensures .0, sizes .copy-size .ensures .0, sizes .before .writes-size .ensures .0, fill .fill-size .ensures .0, fill .before .pcm-pool .ensures .0)
 
 pub lay-out-spec : {M : Type 1} → statement M
 lay-out-spec =

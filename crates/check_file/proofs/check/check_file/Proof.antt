@@ -16,7 +16,8 @@ returns c =
 
 returns-2 : tie.Need-returns-2
 returns-2 c =
-    rw (read-refused (c .before .before .before .before .before .before .args .file .now) _ _ (sym (c .before .before .before .before .read-header .ensures) ∙ ap headerReadOf (c .before .before .rule .given .1))) (c .refused-check .ensures)
+    let l = c .before .before .before .before in
+    rw (read-refused (l .before .before .args .file .now) _ _ (sym (l .read-header .ensures) ∙ ap headerReadOf (c .before .before .rule .given .1))) (c .refused-check .ensures)
 
 pub check-file-spec : {M : Type 1} → statement M
 check-file-spec = tie.close (tie.spec (search needs) (search needs) check-behind-header-requires (search needs) (search needs) returns returns-2)

@@ -69,10 +69,11 @@ loop-again c =
     let start = c .before .before .before in
     let l = start .before .before .before in
     let a = l .before .before .before .before .args in
-    let p = placed (a .progress) (l .loop .cursor) (l .loop .operations) (l .loop .writes) (l .loop .waves) in (
+    let turn = l .loop in
+    let p = placed (a .progress) (turn .cursor) (turn .operations) (turn .writes) (turn .waves) in (
       omega arith,
       omega arith,
-      rw (l .loop .inv .2, planned-operations-25 (a .state) (a .file .now) (a .limit) (l .loop .left) (l .loop .free) p (omega arith) (omega arith), ← (start .start-item .ensures .0), c .before .before .if2 .left, le-ltb _ _ (c .if3 .left)),
+      rw (turn .inv .2, planned-operations-25 (a .state) (a .file .now) (a .limit) (turn .left) (turn .free) p (omega arith) (omega arith), ← (start .start-item .ensures .0), c .before .before .if2 .left, le-ltb _ _ (c .if3 .left)),
     )
 
 returns-4 : tie.Need-returns-4 Inv-loop μ-loop
