@@ -3,6 +3,8 @@ use Prim.Native.Nat.{ℕ}
 use Rattle.base_format.specs.Bytes.{be, bytesOf, bytesOfAll}
 use Rattle.base_format.specs.Card.{oneCardWrong, cardWrong, cardsFrom}
 use Rattle.base_format.specs.Header.{periodOf, cardCount, headerSize, plainHeader, pooledHeader, headerOf, reservedWrong, flagsWrong, periodWrong, headerFrom}
+use Rattle.base_format.specs.Index.{placesFrom, indexOf, indexInto}
+use Rattle.base_format.specs.Jump.{sameHeader, sameCard, sameCards, recordsOther, closingPast, jumpBelongs, jumped}
 use Rattle.base_format.specs.Listener.{answers, recordsFrom, vsyncsFrom}
 use Rattle.base_format.specs.Operation.{addressWidth, sizeOf, fieldsAt, copyWrong, writeRules, fillRules, copyRules, allowed, operationAt, recordAt, itemAt}
 use Rattle.base_format.specs.Next.{nextPart}
@@ -10,9 +12,10 @@ use Rattle.base_format.specs.Player.{slotWrong, cardUsed, poolUsed, pool
 use Rattle.base_format.specs.Pool.{bankLimit, kindWrong, poolWrong, poolsFrom}
 use Rattle.base_format.specs.Repack.{toPcm, toCores, inOrder, runs, startsWave, pieces, isKnown, added, distinct, wavesOf, placeOf, repacked, repack}
 use Rattle.base_format.specs.State.{tableOf, unplayed, playerOf, refusedPlayer, startedAs}
+use Rattle.base_format.specs.Steps.{stepAnswers, reachedBy, callAnswers, restingSteps, jumpsFrom, stepRecordsFrom, completedFrom, dueFrom}
 use Rattle.base_format.specs.Stream.{operationsFrom, framesFrom, openingLimit, countsWrong, sectionsWrong, read}
 use Rattle.base_format.specs.Target.{slotTarget, targetOf, outside}
-use Rattle.base_format.specs.Writes.{upward, writesWith, writesOf, writesOfAll, anySi22, anyFrameSi22, silence, closingWrites, closing, vsync}
+use Rattle.base_format.specs.Writes.{upward, writesWith, writesOf, writesOfAll, anySi22, anyFrameSi22, silence, closingWrites, closing, writesIn, vsync}
 use Rattle.base_format.specs.Written.{itemBytes, operationsBytes, framesBytes, cardsBytes, directoryBytes, payloadsBytes, bodyBytes, written}
 
 -- the checks 1 to 20: header and cards, pools and operations, all of them
@@ -40,7 +43,7 @@ repacking = 0
 
 -- the writes of each vsync
 unfoldable pub listing : ℕ
-unfolding upward writesWith writesOf writesOfAll anySi22 anyFrameSi22 silence closingWrites closing vsync
+unfolding upward writesWith writesOf writesOfAll anySi22 anyFrameSi22 silence closingWrites closing writesIn vsync
 listing = 0
 
 -- a player's start, its calls, and what their answers say
@@ -51,3 +54,13 @@ starting = 0
 unfoldable pub playing : ℕ
 unfolding starting answers recordsFrom vsyncsFrom slotWrong cardUsed poolUsed poolsUsed itemUsed wavesBy gathered frameBegun playFrame playOpening playClosing nextPart play belongs call
 playing = 0
+
+-- indexes and jumps
+unfoldable pub jumping : ℕ
+unfolding placesFrom indexOf indexInto sameHeader sameCard sameCards recordsOther closingPast jumpBelongs jumped
+jumping = 0
+
+-- what steps answer
+unfoldable pub stepping : ℕ
+unfolding stepAnswers reachedBy callAnswers restingSteps jumpsFrom stepRecordsFrom completedFrom dueFrom
+stepping = 0

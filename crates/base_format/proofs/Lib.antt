@@ -22,3 +22,4 @@ pub mod Samples
 pub mod Examples
 pub mod Round
 pub mod Playing
+pub mod Jumping

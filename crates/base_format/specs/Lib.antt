@@ -18,7 +18,10 @@ pub mod Compare
 pub mod State
 pub mod Next
 pub mod Player
+pub mod Index
+pub mod Jump
 pub mod Listener
+pub mod Steps
 pub mod WaveSources
 pub mod Promises
 pub mod Examples

@@ -1,25 +1,30 @@
 -- What is promised, on one page: each statement is a definition over those of this folder, and the contracts of the code cite the same
 -- definitions. Where each is proved stands beside it.
-use Prim.Native.Nat.{ℕ, _≤_, _<_}
-use mathlib.Core.Bool.{true}
+use Prim.Native.Nat.{ℕ, _-_, _≤_, _<_}
+use mathlib.Core.Bool.{true, false, not}
 use mathlib.Core.List.{List}
 use mathlib.Core.Logic.{_↔_}
 use mathlib.Core.Path.{_≡_}
+use lib.Dec.{ltb}
 use lib.ListN.{length, take}
 use Rattle.base_format.specs.declared.operation.WriteRecord.{WriteRecord}
 use Rattle.base_format.specs.declared.player.StreamPlayer.{StreamPlayer}
-use Rattle.base_format.specs.Bytes.{AllBytes}
-use Rattle.base_format.specs.Checked.{Checked, ok}
+use Rattle.base_format.specs.Bytes.{AllBytes, sameBytes}
+use Rattle.base_format.specs.Checked.{Checked, ok, refuse, _>>_}
 use Rattle.base_format.specs.Compare.{compared, agreed, coreWrites, imageOf}
+use Rattle.base_format.specs.Index.{indexOf}
+use Rattle.base_format.specs.Jump.{beforeFrame, noFrame, jumped}
 use Rattle.base_format.specs.Limits.{Limits}
 use Rattle.base_format.specs.Listener.{Call, sameCalls, answers, reached, AllAdmissible, completed, begunNoFurther, vsyncRecords, underWay, callsFor, vsyncsFrom, newListener, heardAll}
 use Rattle.base_format.specs.Player.{Played, call, runAfter}
 use Rattle.base_format.specs.Repack.{repack, repacked}
-use Rattle.base_format.specs.Size.{pcmSize}
-use Rattle.base_format.specs.State.{started, waveSource}
+use Rattle.base_format.specs.Size.{pcmSize, fileLimit}
+use Rattle.base_format.specs.State.{moved, started, waveSource}
+use Rattle.base_format.specs.Steps.{Step, Answer, stepAnswers, reachedBy, AllAdmissibleSteps, callAnswers, completedAllBegun, jumpsMade, stepRecords}
+use Rattle.base_format.specs.Steps.{turnOf, completedTurns, dueTurn, turnsFrom, writesInAll}
 use Rattle.base_format.specs.Stream.{Stream, read}
-use Rattle.base_format.specs.WaveSources.{waveSourceAt}
-use Rattle.base_format.specs.Writes.{openingWrites, frameWrites, vsync}
+use Rattle.base_format.specs.WaveSources.{waveSourceAt, waveSourceBehind}
+use Rattle.base_format.specs.Writes.{openingWrites, frameWrites, writesIn, vsync}
 use Rattle.base_format.specs.Written.{written}
 
 -- ONE READING (theorem_one_reading/proofs/Reading)
@@ -127,3 +132,82 @@ Demand3 =
     → begunNoFurther (answers (started other) calls′) ≡ true
     → completed (answers (started master) calls) ≡ completed (answers (started other) calls′)
     → Together master other (answers (started master) calls) (answers (started other) calls′)
+
+-- JUMPS (theorem_same_sound/proofs; `IndexSmall`: index_laws/proofs/Index). What is said above of lists of calls follows from what is said here of
+-- lists of steps
+
+-- the index of an accepted file is at most 458,764 bytes long, so that 23 cannot apply
+abbrev pub IndexSmall : Type 0
+IndexSmall =
+    (file : List ℕ) (s : Stream) → read file ≡ ok s → (length (indexOf s) ≤ 458764) × (ltb fileLimit (length (indexOf s)) ≡ false)
+
+-- of an accepted file, after any list of steps from its start: with the file itself the next call is not 25
+abbrev pub OwnFilePlaysOn : Type 0
+OwnFilePlaysOn =
+    (file : List ℕ) (s : Stream) → read file ≡ ok s → (steps : List Step) → AllAdmissibleSteps file (started file) steps
+    → (room : ℕ) → (answer : Played) × (call (reachedBy (started file) steps) file room ≡ ok answer)
+
+-- and a jump is not 25; it is 26 exactly where the index is not the file's own, and then 27 exactly for 0 and numbers above the count
+abbrev pub OwnFileJumps : Type 0
+OwnFileJumps =
+    (file : List ℕ) (s : Stream) → read file ≡ ok s → (steps : List Step) → AllAdmissibleSteps file (started file) steps
+    → (index : List ℕ) (frame : ℕ)
+    → let state = reachedBy (started file) steps in
+    jumped state file index frame
+    ≡ (refuse 26 0 (not (sameBytes index (indexOf s))) >> (refuse 27 0 (noFrame (length (s .frames)) frame) >> ok (moved state (beforeFrame s (frame - 1) (state .progress)))))
+
+-- behind it "the next vsync gives that frame's writes and later ones as usual"
+abbrev pub BehindJump : Type 0
+BehindJump =
+    (file : List ℕ) (s : Stream) → read file ≡ ok s → (steps : List Step) → AllAdmissibleSteps file (started file) steps
+    → (index : List ℕ) (frame : ℕ) (next : StreamPlayer) → jumped (reachedBy (started file) steps) file index frame ≡ ok next
+    → (writesIn s (turnOf frame) ≡ frameWrites s (frame - 1))
+    × ((calls : List Call) → AllAdmissible file next calls → vsyncRecords (answers next calls) ≡ writesInAll s (turnsFrom (turnOf frame) (completed (answers next calls))))
+
+-- each vsync's records, over its calls, are its writes, "by the rules above" and by the last jump
+abbrev pub EachVsyncOfSteps : Type 0
+EachVsyncOfSteps =
+    (file : List ℕ) (s : Stream) → read file ≡ ok s → (steps : List Step) → AllAdmissibleSteps file (started file) steps
+    → stepRecords (stepAnswers (started file) steps) ≡ writesInAll s (completedTurns (stepAnswers (started file) steps))
+
+-- "W/n calls rounded up, at least one", also behind jumps
+abbrev pub CallsOfVsyncOfSteps : Type 0
+CallsOfVsyncOfSteps =
+    (file : List ℕ) (s : Stream) → read file ≡ ok s → (steps : List Step) → AllAdmissibleSteps file (started file) steps
+    → completedAllBegun (stepAnswers (started file) steps) ≡ true → (room : ℕ) → 0 < room
+    → let needed = callsFor (length (writesIn s (dueTurn (stepAnswers (started file) steps)))) room in
+    (completed (answers (reachedBy (started file) steps) (sameCalls file room needed)) ≡ 1)
+    × ((count : ℕ) → count < needed → completed (answers (reachedBy (started file) steps) (sameCalls file room count)) ≡ 0)
+
+-- `wave_source` at every moment, also behind a jump within a vsync
+abbrev pub WaveSourceOfSteps : Type 0
+WaveSourceOfSteps =
+    (file : List ℕ) (s : Stream) → read file ≡ ok s → (steps : List Step) → AllAdmissibleSteps file (started file) steps → (core channel : ℕ)
+    → waveSource (reachedBy (started file) steps) core channel ≡ waveSourceBehind s (stepAnswers (started file) steps) core channel
+
+-- DEMAND 3 WITH JUMPS (theorem_same_sound/proofs/SameSound), from which `Demand3` follows
+
+-- what holds of what two players answered
+pub record TogetherWithJumps (master other : List ℕ) (told told′ : List Answer) : Type 0 where
+  pub s : Stream
+  pub s′ : Stream
+  pub accepted : read master ≡ ok s
+  pub accepted′ : read other ≡ ok s′
+  pub held : heardAll newListener (callAnswers told) ≡ heardAll newListener (callAnswers told′)
+  pub writes : stepRecords told ≡ writesInAll s (completedTurns told)
+  pub writes′ : stepRecords told′ ≡ writesInAll s′ (completedTurns told′)
+
+-- one claim about both lists of steps: "where both players completed every vsync that they began" and "jump alike: each with its own file, to the
+-- same frames", "after equally many completed vsyncs"; and both completed equally many
+abbrev pub Demand3WithJumps : Type 0
+Demand3WithJumps =
+    (master other : List ℕ) (image image′ : ℕ)
+    → compared master other image image′ ≡ agreed true
+    → (steps steps′ : List Step)
+    → AllAdmissibleSteps master (started master) steps
+    → AllAdmissibleSteps other (started other) steps′
+    → completedAllBegun (stepAnswers (started master) steps) ≡ true
+    → completedAllBegun (stepAnswers (started other) steps′) ≡ true
+    → jumpsMade (stepAnswers (started master) steps) ≡ jumpsMade (stepAnswers (started other) steps′)
+    → completed (callAnswers (stepAnswers (started master) steps)) ≡ completed (callAnswers (stepAnswers (started other) steps′))
+    → TogetherWithJumps master other (stepAnswers (started master) steps) (stepAnswers (started other) steps′)

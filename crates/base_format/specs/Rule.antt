@@ -6,7 +6,7 @@ use Rattle.base_format.specs.declared.rule.Verdict.{Verdict}
 use Rattle.base_format.specs.declared.rule.Verdict.the-variants.{Allowed, Refused}
 use Rattle.base_format.specs.declared.rule.Rule.{Rule}
 use Rattle.base_format.specs.declared.rule.Rule.the-variants.{HeaderShort, Letters, Version, Voices, Flags, Period, CardEntry, Counts, Directory, PoolEntry, PoolPayload, Sections, Opcode, CutOff}
-use Rattle.base_format.specs.declared.rule.Rule.the-variants.{NoTarget, WriteAddress, BulkRange, NoPool, CopyRange, Ending, OtherVersion, PcmOrder, ResultSize, LentSize, OtherFile}
+use Rattle.base_format.specs.declared.rule.Rule.the-variants.{NoTarget, WriteAddress, BulkRange, NoPool, CopyRange, Ending, OtherVersion, PcmOrder, ResultSize, LentSize, OtherFile, OtherIndex, NoFrame}
 
 abbrev pub numberOf : Rule → ℕ
 numberOf HeaderShort = 1
@@ -34,6 +34,8 @@ numberOf PcmOrder = 22
 numberOf ResultSize = 23
 numberOf LentSize = 24
 numberOf OtherFile = 25
+numberOf OtherIndex = 26
+numberOf NoFrame = 27
 
 -- "a refusal returns number and place"
 abbrev pub refusal : {A : Type 0} → Refusal → Checked A

@@ -47,3 +47,13 @@ pcmSize = 1048576
 -- the total size of a file at most
 abbrev pub fileLimit : ℕ
 fileLimit = 0xE00000
+
+-- an entry of an index for each so many frames, each entry a u32, and the "12-byte trailer" of an index
+abbrev pub indexSpacing : ℕ
+indexSpacing = 64
+
+abbrev pub indexEntrySize : ℕ
+indexEntrySize = 4
+
+abbrev pub indexTrailerSize : ℕ
+indexTrailerSize = 12

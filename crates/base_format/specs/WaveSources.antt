@@ -1,6 +1,6 @@
 -- `wave_source`: "the pool last copied by a kind 1 COPY" to a channel of a core, "set with its first write". The kind is that of the
--- stream's pool, and a moment of playing is a number of vsyncs that are over and a number of writes of the next.
-use Prim.Native.Nat.{ℕ, zero, suc, _-_, _/_}
+-- stream's pool. Where no jump is made, a moment of playing is a number of vsyncs that are over and a number of writes of the next.
+use Prim.Native.Nat.{ℕ, zero, suc, _+_, _-_, _/_}
 use mathlib.Core.Bool.{cond, _&&_}
 use mathlib.Core.List.{List, [], _∷_, _++_}
 use mathlib.Core.Option.{Option, none, some}
@@ -8,9 +8,11 @@ use lib.Dec.{eqb}
 use lib.ListN.{length, getD}
 use Rattle.base_format.specs.declared.operation.Operation.{Operation}
 use Rattle.base_format.specs.declared.operation.Operation.the-variants.{Write, Fill, Copy}
+use Rattle.base_format.specs.Checked.{ok, refused}
 use Rattle.base_format.specs.Pool.{Payload, noPool}
+use Rattle.base_format.specs.Steps.{Answer, ofCall, ofJump, turnOf}
 use Rattle.base_format.specs.Stream.{Stream}
-use Rattle.base_format.specs.Writes.{writesOf, vsyncOperations}
+use Rattle.base_format.specs.Writes.{Turn, first, nextTurn, writesOf, operationsIn, vsyncOperations}
 
 -- the pool that a channel of a core has behind an operation: a kind 1 COPY "to that core and address div 256" sets it, and all else leaves it
 unfoldable pub copiedBy : List Payload → (core channel : ℕ) → Operation → Option ℕ → Option ℕ
@@ -38,3 +40,19 @@ operationsBefore s (suc k) = operationsBefore s k ++ vsyncOperations s k
 unfoldable pub waveSourceAt : Stream → (vsyncs writes core channel : ℕ) → Option ℕ
 waveSourceAt s vsyncs writes core channel =
     lastCopied (s .pools) core channel (operationsBefore s vsyncs ++ begun (s .pools) writes (vsyncOperations s vsyncs)) none
+
+-- WITH JUMPS
+
+-- the operations whose first write is made by some steps, where a vsync is under way with so many writes made. A jump within a vsync leaves
+-- those that are begun: "wave sources stay"
+unfoldable pub begunBy : Stream → Turn → (writes : ℕ) → List Answer → List Operation
+begunBy s turn writes [] = begun (s .pools) writes (operationsIn s turn)
+begunBy s turn writes (ofCall (refused number place) ∷ more) = begunBy s turn writes more
+begunBy s turn writes (ofCall (ok answer) ∷ more) =
+    cond (answer .complete) (operationsIn s turn ++ begunBy s (nextTurn turn) 0 more) (begunBy s turn (writes + length (answer .records)) more)
+begunBy s turn writes (ofJump frame (refused number place) ∷ more) = begunBy s turn writes more
+begunBy s turn writes (ofJump frame (ok next) ∷ more) = begun (s .pools) writes (operationsIn s turn) ++ begunBy s (turnOf frame) 0 more
+
+-- the pool last copied to a channel of a core by the steps of a started player
+unfoldable pub waveSourceBehind : Stream → List Answer → (core channel : ℕ) → Option ℕ
+waveSourceBehind s answers core channel = lastCopied (s .pools) core channel (begunBy s first 0 answers) none

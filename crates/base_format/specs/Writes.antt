@@ -80,17 +80,40 @@ closingCount synth = cond synth 33 32
 unfoldable pub closing : Stream → List WriteRecord
 closing s = closingWrites (usesSi22 s)
 
--- the writes of a vsync, counted from 0. "The first plays opening and frame 1 together." Behind the last frame a repeating file "plays frame 1
--- again without the opening"; any other has the closing writes, "once, then nothing"
-unfoldable pub vsync : Stream → ℕ → List WriteRecord
-vsync s zero = openingWrites s ++ frameWrites s 0
-vsync s (suc k) =
-    cond (s .repeat) (frameWrites s (suc k % length (s .frames)))
-    (cond (ltb (suc k) (length (s .frames))) (frameWrites s (suc k)) (cond (eqb (suc k) (length (s .frames))) (closing s) []))
+-- which vsync it is: the first of a start, or one without the opening. These are numbered from 0 over the frames of all passes, so that a
+-- number past the last frame is frame 1 again, the closing writes, or nothing
+pub data Turn : Type 0 where
+  first : Turn
+  later : (number : ℕ) → Turn
+
+-- the one behind it
+abbrev pub nextTurn : Turn → Turn
+nextTurn first = later 1
+nextTurn (later number) = later (suc number)
+
+-- its writes. "The first plays opening and frame 1 together." Behind the last frame a repeating file "plays frame 1 again without the opening";
+-- any other has the closing writes, "once, then nothing"
+unfoldable pub writesIn : Stream → Turn → List WriteRecord
+writesIn s first = openingWrites s ++ frameWrites s 0
+writesIn s (later number) =
+    cond (s .repeat) (frameWrites s (number % length (s .frames)))
+    (cond (ltb number (length (s .frames))) (frameWrites s number) (cond (eqb number (length (s .frames))) (closing s) []))
 
 -- its operations
+unfoldable pub operationsIn : Stream → Turn → List Operation
+operationsIn s first = s .opening ++ getD (s .frames) 0 []
+operationsIn s (later number) =
+    cond (s .repeat) (getD (s .frames) (number % length (s .frames)) [])
+    (cond (ltb number (length (s .frames))) (getD (s .frames) number []) [])
+
+-- the vsync behind so many others, where no jump is made
+abbrev pub turnAt : ℕ → Turn
+turnAt zero = first
+turnAt (suc k) = later (suc k)
+
+-- its writes and its operations
+unfoldable pub vsync : Stream → ℕ → List WriteRecord
+vsync s k = writesIn s (turnAt k)
+
 unfoldable pub vsyncOperations : Stream → ℕ → List Operation
-vsyncOperations s zero = s .opening ++ getD (s .frames) 0 []
-vsyncOperations s (suc k) =
-    cond (s .repeat) (getD (s .frames) (suc k % length (s .frames)) [])
-    (cond (ltb (suc k) (length (s .frames))) (getD (s .frames) (suc k) []) [])
+vsyncOperations s k = operationsIn s (turnAt k)

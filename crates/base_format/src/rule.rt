@@ -27,6 +27,8 @@ pub enum Rule {
     ResultSize,
     LentSize,
     OtherFile,
+    OtherIndex,
+    NoFrame,
 }
 
 // A refusal: its rule, and the place in the file.

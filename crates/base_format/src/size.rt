@@ -33,3 +33,11 @@ pub const PCM_SIZE: usize = 1048576;
 
 // What a file has at most.
 pub const FILE_LIMIT: u32 = 0xE00000;
+
+// An index has an entry for each so many frames.
+pub const INDEX_SPACING: u32 = 64;
+
+// An entry of an index, and its trailer.
+pub const INDEX_ENTRY_SIZE: usize = 4;
+
+pub const INDEX_TRAILER_SIZE: usize = 12;

@@ -32,5 +32,7 @@ pub fn number(rule: Rule) -> u32
         Rule::ResultSize => 23,
         Rule::LentSize => 24,
         Rule::OtherFile => 25,
+        Rule::OtherIndex => 26,
+        Rule::NoFrame => 27,
     }
 }

@@ -21,7 +21,7 @@ use Rattle.base_format.specs.Written.{operationFields, withoutFirst, itemBytes,
 use Rattle.base_format.proofs.Bytes.{behind}
 use Rattle.base_format.proofs.Fields.{fieldsSize, fields-size}
 use Rattle.base_format.proofs.Written.{operation-some}
-use Rattle.theorem_one_reading.proofs.Places.{Holds, Fit, holds}
+use Rattle.base_field_laws.proofs.Places.{Holds, Fit, holds}
 use Rattle.base_format.proofs.Rules.{EntryFor, inside-passes, takes-passes}
 use Rattle.theorem_one_reading.proofs.Each.{each-at}
 use Rattle.theorem_one_reading.proofs.Widths.{addresses-below, narrow-below, addresses-fit, kind-long}

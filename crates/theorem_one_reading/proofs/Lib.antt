@@ -1,5 +1,4 @@
 pub mod Each
-pub mod Places
 pub mod Widths
 pub mod Items
 pub mod Tables

@@ -19,7 +19,7 @@ use Rattle.base_format.specs.Written.{cardFields, cardsBytes, entryFields, dire
 use Rattle.base_format.proofs.Checks.{given, and-true}
 use Rattle.base_format.proofs.Steps.{CardFine, one-card-fine, card-step, pool-step}
 use Rattle.theorem_one_reading.proofs.Each.{part-bytes}
-use Rattle.theorem_one_reading.proofs.Places.{Holds, Took, took-none, took-both, took-part, took-fields}
+use Rattle.base_field_laws.proofs.Places.{Holds, Took, took-none, took-both, took-part, took-fields}
 
 part-size : (file : List ℕ) (at n : ℕ) → at + n ≤ length file → length (part file at n) ≡ n
 part-size file at n h = length-take-le n (drop at file) (simp length-drop (omega arith))

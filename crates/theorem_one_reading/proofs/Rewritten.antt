@@ -24,7 +24,7 @@ use Rattle.base_format.proofs.Checks.{or-false}
 use Rattle.theorem_one_reading.proofs.Items.{For}
 use Rattle.theorem_one_reading.proofs.Listed.{cards-taken, pools-taken}
 use Rattle.base_format.proofs.Fields.{fieldsSize, fields-size}
-use Rattle.theorem_one_reading.proofs.Places.{Holds, Took, took-both, took-until, took-fields}
+use Rattle.base_field_laws.proofs.Places.{Holds, Took, took-both, took-until, took-fields}
 use Rattle.theorem_one_reading.proofs.Tables.{entries-here}
 use Rattle.theorem_one_reading.proofs.Taken.{operations-taken, frames-taken}
 use Rattle.theorem_one_reading.proofs.Whole.{header-size}

@@ -19,7 +19,7 @@ use Rattle.base_format.proofs.Rules.{EntryFor}
 use Rattle.base_format.proofs.Bytes.{behind, part-here}
 use Rattle.base_format.proofs.Fields.{fields-size}
 use Rattle.base_format.proofs.Written.{card-size}
-use Rattle.theorem_one_reading.proofs.Places.{Holds, Fit, holds}
+use Rattle.base_field_laws.proofs.Places.{Holds, Fit, holds}
 
 -- the card rules let a card within the limits pass
 card-passes : (file : List ℕ) (at least : ℕ) (card : CardRequirement) → CardFits least card → part file (at + 2) 2 ≡ 0 ∷ 0 ∷ [] → cardWrong file at least card ≡ false

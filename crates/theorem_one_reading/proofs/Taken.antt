@@ -15,7 +15,7 @@ use Rattle.base_format.specs.Bytes.{AllBytes, byte, be, bytesOfAll, u16}
 use Rattle.base_format.specs.Checked.{ok}
 use Rattle.base_format.specs.Limits.{Each, OperationFits, FrameFits}
 use Rattle.base_format.specs.Pool.{noPool, Payload}
-use Rattle.base_format.specs.Operation.{extras, Setting, Item, addressWidth, sizeOf, fieldsAt, writeRules, fillRules, allowed, operationAt, recordAt, itemAt}
+use Rattle.base_format.specs.Operation.{Setting, Item, addressWidth, sizeOf, fieldsAt, writeRules, fillRules, allowed, operationAt, recordAt, itemAt}
 use Rattle.base_format.specs.Stream.{operationsFrom, framesFrom}
 use Rattle.base_format.specs.Target.{targetOf, missing, writeLimit, outside}
 use Rattle.base_format.specs.Written.{operationFields, withoutFirst, itemBytes, operationsBytes, framesBytes}
@@ -23,7 +23,8 @@ use Rattle.base_format.proofs.Bytes.{be-below}
 use Rattle.base_format.proofs.Checks.{passed-test, passed-last, given}
 use Rattle.base_format.proofs.Steps.{record-is, operation-is, operation-step, frame-step}
 use Rattle.theorem_one_reading.proofs.Items.{For}
-use Rattle.theorem_one_reading.proofs.Places.{Holds, Took, took-none, took-both, took-fields}
+use Rattle.base_field_laws.proofs.Operations.{fields-long}
+use Rattle.base_field_laws.proofs.Places.{Holds, Took, took-none, took-both, took-fields}
 use Rattle.base_format.proofs.Fields.{fieldsSize}
 use Rattle.base_format.proofs.Rules.{passes-inside, passes-takes, copy-allowed}
 use Rattle.base_format.proofs.Sizes.{size-is, width-range}
@@ -85,13 +86,6 @@ fields-hold file width at (suc (suc zero)) o e =
     let e₃ : at + (2 + width + 2 + 4) ≡ at + 8 + width = omega arith in
     (rw add-zero e, (refl, (refl, (ap (be 2 file) e₁, (ap (be 4 file) e₂, (ap (be 4 file) e₃, tt))))))
 fields-hold file width at (suc (suc (suc n))) o e = absurd (omega arith)
-
-fields-long : (file : List ℕ) (width at opcode : ℕ) → opcode ≤ 2 → width + getD extras opcode 0 ≡ fieldsSize (operationFields width (fieldsAt file width at opcode))
-unfolding fieldsAt
-fields-long file width at zero o = omega arith
-fields-long file width at (suc zero) o = omega arith
-fields-long file width at (suc (suc zero)) o = omega arith
-fields-long file width at (suc (suc (suc n))) o = absurd (omega arith)
 
 -- an item that is read: within the limits, and standing at its place as it is written
 pub record ItemTaken (setting : Setting) (pools : List Payload) (file : List ℕ) (at : ℕ) (bytes : List ℕ) (item : Item) : Type 0 where

@@ -24,7 +24,7 @@ use Rattle.base_format.proofs.Accepted.{opening-limit}
 use Rattle.base_format.proofs.Bytes.{behind}
 use Rattle.base_format.proofs.Fields.{fieldsSize, fields-size}
 use Rattle.base_format.proofs.Written.{operations-count, frames-count, records-size, cards-size, directory-size}
-use Rattle.theorem_one_reading.proofs.Places.{Holds, Fit, holds}
+use Rattle.base_field_laws.proofs.Places.{Holds, Fit, holds}
 use Rattle.theorem_one_reading.proofs.Items.{For, operations-here, frames-here}
 use Rattle.theorem_one_reading.proofs.Tables.{cards-here, pools-here, entries-here}
 

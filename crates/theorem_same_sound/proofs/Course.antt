@@ -1,5 +1,5 @@
 -- The wave sources on the way through a vsync: those when it begins, changed by the operations whose first write is made.
-use Prim.Native.Nat.{ℕ, zero, suc, _+_, _-_, _≤_, _<_}
+use Prim.Native.Nat.{ℕ, _+_, _-_, _≤_, _<_}
 use mathlib.Core.Bool.{Bool, true, false, cond}
 use mathlib.Core.List.{List, [], _∷_, _++_, append-nil, append-assoc}
 use mathlib.Core.Path.{_≡_, refl, sym, ap, ap₂, _∙_}
@@ -16,7 +16,7 @@ use Rattle.base_format.specs.Player.{wavesBy}
 use Rattle.base_format.specs.State.{noWave}
 use Rattle.base_format.specs.Stream.{Stream}
 use Rattle.base_format.specs.WaveSources.{begun}
-use Rattle.base_format.specs.Writes.{writesOf, writesOfAll, vsyncOperations}
+use Rattle.base_format.specs.Writes.{Turn, first, nextTurn, writesOf, writesOfAll, operationsIn}
 use Rattle.base_format.proofs.Writes.{writes-append}
 
 -- OPERATIONS
@@ -35,10 +35,22 @@ unfolding wavesByAll
 waves-append file [] b waves = refl
 waves-append file (operation ∷ a) b waves = waves-append file a b (wavesOn file operation waves)
 
--- the wave sources when vsync k comes
-unfoldable pub wavesBefore : List ℕ → Stream → (k : ℕ) → List WaveSource
-wavesBefore file s zero = replicate 16 noWave
-wavesBefore file s (suc k) = wavesByAll file (vsyncOperations s k) (wavesBefore file s k)
+-- WHAT A VSYNC BEGINS WITH
+
+-- which vsync it is, and the wave sources before it
+pub record Due : Type 0 where
+  pub turn : Turn
+  pub waves : List WaveSource
+
+-- what the vsync behind it begins with
+abbrev pub nextDue : List ℕ → Stream → Due → Due
+nextDue file s d = record { turn = nextTurn (d .turn); waves = wavesByAll file (operationsIn s (d .turn)) (d .waves) }
+
+-- what the first vsync of a start begins with
+abbrev pub startDue : Due
+startDue = record { turn = first; waves = replicate 16 noWave }
+
+-- WRITES OF AN OPERATION
 
 -- of the first operation so many writes are done, and not all of them
 abbrev pub Fits : Stream → (writes : ℕ) → List Operation → Type 0
@@ -61,7 +73,7 @@ AllSome s (operation ∷ more) = (0 < length (writesOf (s .pools) operation)) ×
 
 some-more : (s : Stream) (done : List Operation) (operation : Operation) → AllSome s done → 0 < length (writesOf (s .pools) operation) → AllSome s (done ++ (operation ∷ []))
 some-more s [] operation all some = (some, tt)
-some-more s (first ∷ done) operation all some = (all .0, some-more s done operation (all .1) some)
+some-more s (one ∷ done) operation all some = (all .0, some-more s done operation (all .1) some)
 
 -- THE WAY
 
@@ -71,8 +83,8 @@ pub record Course : Type 0 where
   pub later : List Operation
   pub first : List WaveSource
 
-abbrev pub courseOf : List ℕ → Stream → (k : ℕ) → (later : List Operation) → Course
-courseOf file s k later = record { all = vsyncOperations s k; later = later; first = wavesBefore file s k }
+abbrev pub courseOf : Stream → Due → (later : List Operation) → Course
+courseOf s d later = record { all = operationsIn s (d .turn); later = later; first = d .waves }
 
 -- of the part that is playing some operations are left, of the first of which so many writes are done
 pub record Along (file : List ℕ) (s : Stream) (c : Course) (writes : ℕ) (operations : List Operation) (waves : List WaveSource) : Type 0 where
@@ -121,20 +133,19 @@ module _ (file : List ℕ) (s : Stream) (c : Course) (writes : ℕ) (operation :
       }
 
 -- the part is done, and the next one begins
-pub along-later : (file : List ℕ) (s : Stream) (k : ℕ) (later : List Operation) (writes : ℕ) (waves : List WaveSource) → Along file s (courseOf file s k later) writes [] waves
-    → Along file s (courseOf file s k []) 0 later waves
-along-later file s k later writes waves a =
+pub along-later : (file : List ℕ) (s : Stream) (d : Due) (later : List Operation) (writes : ℕ) (waves : List WaveSource) → Along file s (courseOf s d later) writes [] waves
+    → Along file s (courseOf s d []) 0 later waves
+along-later file s d later writes waves a =
     record {
       done = a .done;
       is = a .is ∙ ap (λ (l : List Operation). a .done ++ l) (sym (append-nil later));
       some = a .some;
-      sources = a .sources ∙ ap (λ (l : List Operation). wavesByAll file (a .done ++ l) (wavesBefore file s k)) (sym (half-none later));
+      sources = a .sources ∙ ap (λ (l : List Operation). wavesByAll file (a .done ++ l) (d .waves)) (sym (half-none later));
     }
 
 -- the last part is done
-pub along-whole : (file : List ℕ) (s : Stream) (k writes : ℕ) (waves : List WaveSource) → Along file s (courseOf file s k []) writes [] waves → waves ≡ wavesBefore file s (suc k)
-unfolding wavesBefore
-along-whole file s k writes waves a = a .sources ∙ ap (λ (l : List Operation). wavesByAll file l (wavesBefore file s k)) (sym (a .is))
+pub along-whole : (file : List ℕ) (s : Stream) (d : Due) (writes : ℕ) (waves : List WaveSource) → Along file s (courseOf s d []) writes [] waves → waves ≡ nextDue file s d .waves
+along-whole file s d writes waves a = a .sources ∙ ap (λ (l : List Operation). wavesByAll file l (d .waves)) (sym (a .is))
 
 -- AT EVERY MOMENT
 
@@ -161,13 +172,13 @@ begun-half s writes (operation ∷ more) later fits =
     rw (rest, begun-none s (more ++ later))
 
 -- the wave sources are those when the vsync begins, changed by the operations that are begun
-pub along-begun : (file : List ℕ) (s : Stream) (k : ℕ) (later : List Operation) (writes n : ℕ) (operations : List Operation) (waves : List WaveSource)
-    → (a : Along file s (courseOf file s k later) writes operations waves) → Fits s writes operations → n ≡ length (writesOfAll (s .pools) (a .done)) + writes
-    → waves ≡ wavesByAll file (begun (s .pools) n (vsyncOperations s k)) (wavesBefore file s k)
-along-begun file s k later writes n operations waves a fits e =
-    let those : begun (s .pools) n (vsyncOperations s k) ≡ a .done ++ halfDone writes operations =
+pub along-begun : (file : List ℕ) (s : Stream) (d : Due) (later : List Operation) (writes n : ℕ) (operations : List Operation) (waves : List WaveSource)
+    → (a : Along file s (courseOf s d later) writes operations waves) → Fits s writes operations → n ≡ length (writesOfAll (s .pools) (a .done)) + writes
+    → waves ≡ wavesByAll file (begun (s .pools) n (operationsIn s (d .turn))) (d .waves)
+along-begun file s d later writes n operations waves a fits e =
+    let those : begun (s .pools) n (operationsIn s (d .turn)) ≡ a .done ++ halfDone writes operations =
     ap₂ (begun (s .pools)) e (a .is) ∙ begun-through s (a .done) (operations ++ later) writes (a .some) ∙ ap (λ (l : List Operation). a .done ++ l) (begun-half s writes operations later fits) in
-    a .sources ∙ ap (λ (l : List Operation). wavesByAll file l (wavesBefore file s k)) (sym those)
+    a .sources ∙ ap (λ (l : List Operation). wavesByAll file l (d .waves)) (sym those)
 
 fitting : (s : Stream) (writes : ℕ) (operations : List Operation) → Fits s writes operations → writes ≤ length (writesOfAll (s .pools) operations)
 unfolding writesOfAll
@@ -175,13 +186,13 @@ fitting s writes [] fits = omega arith
 fitting s writes (operation ∷ more) fits = omega (arith, length-append (writesOf (s .pools) operation) (writesOfAll (s .pools) more))
 
 -- how many writes those are
-pub along-made : (file : List ℕ) (s : Stream) (k : ℕ) (later : List Operation) (writes n : ℕ) (operations : List Operation) (waves : List WaveSource)
-    → (a : Along file s (courseOf file s k later) writes operations waves) → Fits s writes operations
-    → n + (length (drop writes (writesOfAll (s .pools) operations)) + length (writesOfAll (s .pools) later)) ≡ length (writesOfAll (s .pools) (vsyncOperations s k))
+pub along-made : (file : List ℕ) (s : Stream) (d : Due) (later : List Operation) (writes n : ℕ) (operations : List Operation) (waves : List WaveSource)
+    → (a : Along file s (courseOf s d later) writes operations waves) → Fits s writes operations
+    → n + (length (drop writes (writesOfAll (s .pools) operations)) + length (writesOfAll (s .pools) later)) ≡ length (writesOfAll (s .pools) (operationsIn s (d .turn)))
     → n ≡ length (writesOfAll (s .pools) (a .done)) + writes
-along-made file s k later writes n operations waves a fits e =
+along-made file s d later writes n operations waves a fits e =
     let wo : List Operation → List WriteRecord = writesOfAll (s .pools) in
-    let parted : length (wo (vsyncOperations s k)) ≡ length (wo (a .done)) + (length (wo operations) + length (wo later)) =
+    let parted : length (wo (operationsIn s (d .turn))) ≡ length (wo (a .done)) + (length (wo operations) + length (wo later)) =
     ap (λ (l : List Operation). length (wo l)) (a .is) ∙ ap length (writes-append (s .pools) (a .done) (operations ++ later)) ∙ length-append (wo (a .done)) (wo (operations ++ later))
     ∙ ap (λ (m : ℕ). length (wo (a .done)) + m) (ap length (writes-append (s .pools) operations later) ∙ length-append (wo operations) (wo later)) in
     omega (arith, parted, length-drop writes (wo operations), fitting s writes operations fits)

@@ -60,7 +60,8 @@ pub record Took (file : List ℕ) (s : Stream) (q : Progress) (limit end left ro
   pub at : At file s limit end left′ cursor writes (drop room pending) waves course
   pub counted : index + left′ ≡ p .«operation_index» + left
 
-nothing-left : (file : List ℕ) (s : Stream) (limit end cursor writes : ℕ) (pending : List WriteRecord) (waves : List WaveSource) (course : Course) → At file s limit end 0 cursor writes pending waves course → pending ≡ []
+nothing-left : (file : List ℕ) (s : Stream) (limit end cursor writes : ℕ) (pending : List WriteRecord) (waves : List WaveSource) (course : Course)
+    → At file s limit end 0 cursor writes pending waves course → pending ≡ []
 unfolding operationsFrom writesOfAll
 nothing-left file s limit end cursor writes pending waves course at =
     let none : [] ≡ at .operations = ap (λ (x : List Operation × ℕ). x .0) (ok-is (at .from)) in
@@ -104,7 +105,8 @@ at-next file s limit end left cursor writes pending waves course n done after h 
     record { operations = n .item .operation ∷ n .more; from = rw (n .here, n .from); fits = h; is = sym (apart s done (n .item .operation) (n .more) h); sources = sources }
 
 -- with none of the next operation's writes done
-fits-none : (file : List ℕ) (s : Stream) → Accepted file (headerOf file) s → (limit end left cursor : ℕ) (more : List Operation) → operationsFrom (own file s) file limit left cursor ≡ ok (more, end) → Fits s 0 more
+fits-none : (file : List ℕ) (s : Stream) → Accepted file (headerOf file) s → (limit end left cursor : ℕ) (more : List Operation)
+    → operationsFrom (own file s) file limit left cursor ≡ ok (more, end) → Fits s 0 more
 unfolding operationsFrom
 fits-none file s acc limit end zero cursor more e = subst (Fits s 0) (ap (λ (x : List Operation × ℕ). x .0) (ok-is e)) refl
 fits-none file s acc limit end (suc left) cursor more e =
@@ -157,7 +159,8 @@ drop-past room a b h =
 
 -- GATHERING
 
-gathered-is : {a b : List WriteRecord} {n m : ℕ} (p : Progress) → a ≡ b → n ≡ m → _≡_ {A = Checked Gathered} (ok (record { records = a; room = n; progress = p })) (ok (record { records = b; room = m; progress = p }))
+gathered-is : {a b : List WriteRecord} {n m : ℕ} (p : Progress) → a ≡ b → n ≡ m
+    → _≡_ {A = Checked Gathered} (ok (record { records = a; room = n; progress = p })) (ok (record { records = b; room = m; progress = p }))
 gathered-is p e f = λ i. ok (record { records = e i; room = f i; progress = p })
 
 -- no operation is left
@@ -222,7 +225,8 @@ module _ (file : List ℕ) (s : Stream) (acc : Accepted file (headerOf file) s) 
   abbrev onward : Progress
   onward = placed p (n .item .next) (p .«operation_index» + 1) 0 (wavesAfter file (n .item .operation) p)
 
-  gather-onward : ltb (suc others) (length rest) ≡ false → Took file s q limit end left (suc others - length rest) onward (writesOfAll (s .pools) (n .more)) course → Took file s q limit end (suc left) (suc others) p pending course
+  gather-onward : ltb (suc others) (length rest) ≡ false → Took file s q limit end left (suc others - length rest) onward (writesOfAll (s .pools) (n .more)) course
+      → Took file s q limit end (suc left) (suc others) p pending course
   gather-onward e took =
       let enough : length rest ≤ suc others = ltb-false _ _ e in
       let long : length pending ≡ length rest + length (writesOfAll (s .pools) (n .more)) = ap length (n .is) ∙ length-append rest (writesOfAll (s .pools) (n .more)) in

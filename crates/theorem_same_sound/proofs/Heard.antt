@@ -1,5 +1,5 @@
 -- What a list of answers comes to, vsync by vsync.
-use Prim.Native.Nat.{ℕ, suc}
+use Prim.Native.Nat.{ℕ}
 use mathlib.Core.Bool.{Bool, true, false, cond, false≢true}
 use mathlib.Core.List.{List, [], _∷_, _++_}
 use mathlib.Core.Path.{_≡_, refl}
@@ -12,17 +12,19 @@ use Rattle.base_format.specs.Compare.{coreWrites, played}
 use Rattle.base_format.specs.Listener.{answers, resting, recordsFrom, Listener, ending, heard, heardAll}
 use Rattle.base_format.specs.Player.{Played, call}
 use Rattle.base_format.specs.Stream.{Stream}
-use Rattle.base_format.specs.Writes.{vsync}
+use Rattle.base_format.specs.Writes.{nextTurn, writesIn}
 use Rattle.base_format.proofs.Equal.{core-append, played-append}
+use Rattle.theorem_same_sound.proofs.Course.{Due, nextDue}
+use Rattle.theorem_same_sound.proofs.Phases.{Holds}
 
 -- ONE CALL
 
--- what a call with its own file gives where `rest` remains of vsync k: as much of it as there is room for, complete where that is
--- all, and a state at which the remainder, or the next vsync, remains
-pub record Goes (s : Stream) (Holds : StreamPlayer → ℕ → List WriteRecord → Type 0) (k : ℕ) (rest : List WriteRecord) (room : ℕ) (answer : Checked Played) : Type 0 where
+-- what a call with its own file gives where `rest` remains of the vsync that begins with `d`: as much of it as there is room for, complete
+-- where that is all, and a state at which the remainder, or the next vsync, remains
+pub record Goes (file : List ℕ) (s : Stream) (d : Due) (rest : List WriteRecord) (room : ℕ) (answer : Checked Played) : Type 0 where
   pub next : StreamPlayer
   pub is : answer ≡ ok (record { records = take room rest; complete = leb (length rest) room; next = next })
-  pub holds : Holds next (cond (leb (length rest) room) (suc k) k) (cond (leb (length rest) room) (vsync s (suc k)) (drop room rest))
+  pub holds : Holds file s next (cond (leb (length rest) room) (nextDue file s d) d) (cond (leb (length rest) room) (writesIn s (nextTurn (d .turn))) (drop room rest))
 
 -- a finished state answers whatever file it is lent
 pub finished-any : (state : StreamPlayer) (file file′ : List ℕ) (room : ℕ) → state .progress .finished ≡ true → call state file room ≡ call state file′ room

@@ -21,13 +21,14 @@ use Rattle.base_format.specs.Header.{headerOf}
 use Rattle.base_format.specs.Player.{frameStart, frameBegun, belongs}
 use Rattle.base_format.specs.State.{partOf, unplayed, tableOf, playerOf}
 use Rattle.base_format.specs.Stream.{Stream, operationsFrom, framesFrom, openingLimit}
-use Rattle.base_format.specs.Writes.{writesOfAll, frameWrites, closing, vsync, vsyncOperations}
+use Rattle.base_format.specs.Writes.{first, later, nextTurn, writesOfAll, frameWrites, closing, writesIn, operationsIn}
 use Rattle.base_format.proofs.Accepted.{Accepted, HeaderOk}
 use Rattle.base_format.proofs.Cards.{cards-count}
 use Rattle.base_format.proofs.Checks.{ok-is}
 use Rattle.base_format.proofs.Steps.{frame-step}
 use Rattle.base_format.proofs.Writes.{writes-append}
-use Rattle.theorem_same_sound.proofs.Course.{wavesByAll, wavesBefore, Course, courseOf, Along, along-first}
+use Rattle.index_laws.proofs.Places.{frame-count}
+use Rattle.theorem_same_sound.proofs.Course.{wavesByAll, Due, nextDue, startDue, Course, courseOf, Along, along-first}
 use Rattle.theorem_same_sound.proofs.Gather.{own, At, at-start, onward-to}
 
 -- WHAT HOLDS OF A STATE
@@ -38,7 +39,7 @@ pub record Inside (file : List ℕ) (p : Progress) : Type 0 where
   pub frames : p .«frame_index» ≤ headerOf file .«frame_count»
   pub operations : p .«operation_index» ≤ p .«operation_count»
 
--- `frame` frames of a pass are played when vsync k comes, and `more` are to come from the cursor on
+-- `frame` frames of a pass are played when the vsync numbered k comes, and `more` are to come from the cursor on
 pub record Ahead (file : List ℕ) (s : Stream) (k frame more cursor : ℕ) : Type 0 where
   pub passes : ℕ
   pub once : s .repeat ≡ false → passes ≡ 0
@@ -46,69 +47,74 @@ pub record Ahead (file : List ℕ) (s : Stream) (k frame more cursor : ℕ) : Ty
   pub vsyncs : k ≡ passes * headerOf file .«frame_count» + frame
   pub later : framesFrom (own file s) file more cursor ≡ ok (drop frame (s .frames), length file)
 
-pub record InOpening (file : List ℕ) (s : Stream) (p : Progress) (k : ℕ) (rest : List WriteRecord) : Type 0 where
+pub record InOpening (file : List ℕ) (s : Stream) (p : Progress) (d : Due) (rest : List WriteRecord) : Type 0 where
   pub part : partOf (p .part) ≡ Opening
   pub going : p .finished ≡ false
   pub left : ℕ
   pub pending : List WriteRecord
-  pub at : At file s (openingLimit (headerOf file) file) (headerOf file .«frame_start») left (p .cursor) (p .«write_index») pending (p .«wave_sources») (courseOf file s 0 (getD (s .frames) 0 []))
+  pub at : At file s (openingLimit (headerOf file) file) (headerOf file .«frame_start») left (p .cursor) (p .«write_index») pending (p .«wave_sources») (courseOf s d (getD (s .frames) 0 []))
   pub counted : p .«operation_index» + left ≡ p .«operation_count»
-  pub first : k ≡ 0
+  pub turn : d .turn ≡ first
   pub is : rest ≡ pending ++ frameWrites s 0
 
-pub record InFrame (file : List ℕ) (s : Stream) (p : Progress) (k : ℕ) (rest : List WriteRecord) : Type 0 where
+pub record InFrame (file : List ℕ) (s : Stream) (p : Progress) (d : Due) (rest : List WriteRecord) : Type 0 where
   pub part : partOf (p .part) ≡ Frame
   pub going : p .finished ≡ false
   pub left : ℕ
   pub end : ℕ
   pub more : ℕ
-  pub at : At file s (length file) end left (p .cursor) (p .«write_index») rest (p .«wave_sources») (courseOf file s k [])
-  pub whole : vsync s k ≡ writesOfAll (s .pools) (vsyncOperations s k)
+  pub at : At file s (length file) end left (p .cursor) (p .«write_index») rest (p .«wave_sources») (courseOf s d [])
+  pub whole : writesIn s (d .turn) ≡ writesOfAll (s .pools) (operationsIn s (d .turn))
   pub counted : p .«operation_index» + left ≡ p .«operation_count»
-  pub begun : 0 < p .«frame_index»
-  pub ahead : Ahead file s (suc k) (p .«frame_index») more end
+  pub number : ℕ
+  pub turn : nextTurn (d .turn) ≡ later number
+  pub ahead : Ahead file s number (p .«frame_index») more end
 
-pub record BetweenFrames (file : List ℕ) (s : Stream) (p : Progress) (k : ℕ) (rest : List WriteRecord) : Type 0 where
+pub record BetweenFrames (file : List ℕ) (s : Stream) (p : Progress) (d : Due) (rest : List WriteRecord) : Type 0 where
   pub part : partOf (p .part) ≡ Between
   pub going : p .finished ≡ false
   pub initialized : p .initialized ≡ true
   pub more : ℕ
-  pub begun : 0 < p .«frame_index»
-  pub ahead : Ahead file s k (p .«frame_index») more (p .cursor)
-  pub sources : p .«wave_sources» ≡ wavesBefore file s k
-  pub is : rest ≡ vsync s k
+  pub number : ℕ
+  pub turn : d .turn ≡ later number
+  pub ahead : Ahead file s number (p .«frame_index») more (p .cursor)
+  pub sources : p .«wave_sources» ≡ d .waves
+  pub is : rest ≡ writesIn s (d .turn)
 
-pub record InClosing (file : List ℕ) (s : Stream) (p : Progress) (k : ℕ) (rest : List WriteRecord) : Type 0 where
+pub record InClosing (file : List ℕ) (s : Stream) (p : Progress) (d : Due) (rest : List WriteRecord) : Type 0 where
   pub part : partOf (p .part) ≡ Closing
   pub going : p .finished ≡ false
   pub once : s .repeat ≡ false
-  pub last : k ≡ length (s .frames)
+  pub turn : d .turn ≡ later (length (s .frames))
   pub within : p .«write_index» ≤ length (closing s)
-  pub sources : p .«wave_sources» ≡ wavesBefore file s k
+  pub sources : p .«wave_sources» ≡ d .waves
   pub is : rest ≡ drop (p .«write_index») (closing s)
 
-pub record Over (file : List ℕ) (s : Stream) (p : Progress) (k : ℕ) (rest : List WriteRecord) : Type 0 where
+pub record Over (file : List ℕ) (s : Stream) (p : Progress) (d : Due) (rest : List WriteRecord) : Type 0 where
   pub over : p .finished ≡ true
   pub once : s .repeat ≡ false
-  pub last : length (s .frames) < k
-  pub sources : p .«wave_sources» ≡ wavesBefore file s k
+  pub number : ℕ
+  pub turn : d .turn ≡ later number
+  pub last : length (s .frames) < number
+  pub within : p .«write_index» ≤ length (closing s)
+  pub sources : p .«wave_sources» ≡ d .waves
   pub is : rest ≡ []
 
--- after k vsyncs, `rest` remains of vsync k
-pub data Phase (file : List ℕ) (s : Stream) (p : Progress) (k : ℕ) (rest : List WriteRecord) : Type 0 where
-  at-start-of-all : p ≡ unplayed false (headerOf file .«frame_start») → k ≡ 0 → rest ≡ vsync s 0 → Phase file s p k rest
-  at-opening : InOpening file s p k rest → Phase file s p k rest
-  at-frame : InFrame file s p k rest → Phase file s p k rest
-  at-between : BetweenFrames file s p k rest → Phase file s p k rest
-  at-closing : InClosing file s p k rest → Phase file s p k rest
-  at-over : Over file s p k rest → Phase file s p k rest
+-- `rest` remains of the vsync that begins with `d`
+pub data Phase (file : List ℕ) (s : Stream) (p : Progress) (d : Due) (rest : List WriteRecord) : Type 0 where
+  at-start-of-all : p ≡ unplayed false (headerOf file .«frame_start») → d ≡ startDue → rest ≡ writesIn s first → Phase file s p d rest
+  at-opening : InOpening file s p d rest → Phase file s p d rest
+  at-frame : InFrame file s p d rest → Phase file s p d rest
+  at-between : BetweenFrames file s p d rest → Phase file s p d rest
+  at-closing : InClosing file s p d rest → Phase file s p d rest
+  at-over : Over file s p d rest → Phase file s p d rest
 
--- a state, its file, the stream, the vsyncs that are completed and what remains of the next belong together
-pub record Holds (file : List ℕ) (s : Stream) (state : StreamPlayer) (k : ℕ) (rest : List WriteRecord) : Type 0 where
+-- a state, its file, the stream, what the vsync begins with and what remains of it belong together
+pub record Holds (file : List ℕ) (s : Stream) (state : StreamPlayer) (d : Due) (rest : List WriteRecord) : Type 0 where
   pub progress : Progress
   pub is : state ≡ playerOf file s progress
   pub inside : Inside file progress
-  pub phase : Phase file s progress k rest
+  pub phase : Phase file s progress d rest
 
 -- THE TESTS OF 25 PASS
 
@@ -134,13 +140,6 @@ belongs-own file s acc header p inside =
 
 -- FRAMES
 
-pub frames-count : (file : List ℕ) (s : Stream) (count cursor : ℕ) (frames : List (List Operation)) (end : ℕ) → framesFrom (own file s) file count cursor ≡ ok (frames, end) → length frames ≡ count
-unfolding framesFrom
-frames-count file s zero cursor frames end e = ap (λ (x : List (List Operation) × ℕ). length (x .0)) (sym (ok-is e))
-frames-count file s (suc count) cursor frames end e =
-    let step = frame-step (own file s) file count cursor (frames, end) e in
-    ap (λ (x : List (List Operation) × ℕ). length (x .0)) (sym (step .is)) ∙ ap suc (frames-count file s count (step .frame .1) (step .others .0) (step .others .1) (step .from))
-
 pub frames-onward : (file : List ℕ) (s : Stream) (count cursor : ℕ) (frames : List (List Operation)) (end : ℕ) → framesFrom (own file s) file count cursor ≡ ok (frames, end) → cursor ≤ end
 unfolding framesFrom
 frames-onward file s zero cursor frames end e = le-of-eq (ap (λ (x : List (List Operation) × ℕ). x .1) (ok-is e))
@@ -161,7 +160,8 @@ pub record Starts (file : List ℕ) (s : Stream) (count cursor : ℕ) (frames : 
   pub later : framesFrom (own file s) file count next ≡ ok (others, end)
   pub is : frames ≡ operations ∷ others
 
-starts : (file : List ℕ) (s : Stream) (count cursor : ℕ) (frames : List (List Operation)) (end : ℕ) → framesFrom (own file s) file (suc count) cursor ≡ ok (frames, end) → Starts file s count cursor frames end
+starts : (file : List ℕ) (s : Stream) (count cursor : ℕ) (frames : List (List Operation)) (end : ℕ) → framesFrom (own file s) file (suc count) cursor ≡ ok (frames, end)
+    → Starts file s count cursor frames end
 unfolding framesFrom
 starts file s count cursor frames end e =
     let step = frame-step (own file s) file count cursor (frames, end) e in
@@ -218,74 +218,77 @@ again-ahead file s acc repeats k frame cursor ahead =
 
 -- THE WRITES OF A VSYNC
 
--- a vsync after the first that plays a frame: which one
-frame-turn : {A : Type 0} (file : List ℕ) (s : Stream) → Accepted file (headerOf file) s → (k frame more cursor : ℕ) → Ahead file s (suc k) frame (suc more) cursor
-    → (f : ℕ → A) (other : A) → cond (s .repeat) (f (suc k % length (s .frames))) (cond (ltb (suc k) (length (s .frames))) (f (suc k)) other) ≡ f frame
+-- a vsync that plays a frame and no opening: which one
+frame-turn : {A : Type 0} (file : List ℕ) (s : Stream) → Accepted file (headerOf file) s → (k frame more cursor : ℕ) → Ahead file s k frame (suc more) cursor
+    → (f : ℕ → A) (other : A) → cond (s .repeat) (f (k % length (s .frames))) (cond (ltb k (length (s .frames))) (f k) other) ≡ f frame
 frame-turn {A} file s acc k frame more cursor ahead f other = go (s .repeat) refl
   where
     n : length (s .frames) ≡ headerOf file .«frame_count»
-    n = frames-count file s (headerOf file .«frame_count») (headerOf file .«frame_start») (s .frames) (length file) (acc .frames)
+    n = frame-count file s acc
 
     less : frame < length (s .frames)
     less = omega (arith, n, ahead .counted)
 
-    go : (b : Bool) → s .repeat ≡ b → cond b (f (suc k % length (s .frames))) (cond (ltb (suc k) (length (s .frames))) (f (suc k)) other) ≡ f frame
+    go : (b : Bool) → s .repeat ≡ b → cond b (f (k % length (s .frames))) (cond (ltb k (length (s .frames))) (f k) other) ≡ f frame
     go true e =
-        let turn : suc k ≡ ahead .passes * length (s .frames) + frame = ahead .vsyncs ∙ ap (λ (m : ℕ). ahead .passes * m + frame) (sym n) in
-        let turned : suc k % length (s .frames) ≡ frame = ap (λ (m : ℕ). m % length (s .frames)) turn ∙ mul-add-mod-self-right (ahead .passes) (length (s .frames)) frame ∙ mod-eq-of-lt less in
+        let turn : k ≡ ahead .passes * length (s .frames) + frame = ahead .vsyncs ∙ ap (λ (m : ℕ). ahead .passes * m + frame) (sym n) in
+        let turned : k % length (s .frames) ≡ frame = ap (λ (m : ℕ). m % length (s .frames)) turn ∙ mul-add-mod-self-right (ahead .passes) (length (s .frames)) frame ∙ mod-eq-of-lt less in
         ap f turned
     go false e =
-        let turn : suc k ≡ 0 * headerOf file .«frame_count» + frame = ahead .vsyncs ∙ ap (λ (m : ℕ). m * headerOf file .«frame_count» + frame) (ahead .once e) in
-        let same : suc k ≡ frame = omega arith in
+        let turn : k ≡ 0 * headerOf file .«frame_count» + frame = ahead .vsyncs ∙ ap (λ (m : ℕ). m * headerOf file .«frame_count» + frame) (ahead .once e) in
+        let same : k ≡ frame = omega arith in
         rw (same, lt-ltb frame (length (s .frames)) less)
 
-pub vsync-frame : (file : List ℕ) (s : Stream) → Accepted file (headerOf file) s → (k frame more cursor : ℕ) → Ahead file s (suc k) frame (suc more) cursor → vsync s (suc k) ≡ frameWrites s frame
-unfolding vsync
-vsync-frame file s acc k frame more cursor ahead = frame-turn file s acc k frame more cursor ahead (frameWrites s) _
+pub writes-frame : (file : List ℕ) (s : Stream) → Accepted file (headerOf file) s → (k frame more cursor : ℕ) → Ahead file s k frame (suc more) cursor → writesIn s (later k) ≡ frameWrites s frame
+unfolding writesIn
+writes-frame file s acc k frame more cursor ahead = frame-turn file s acc k frame more cursor ahead (frameWrites s) _
 
 -- its operations
-frame-operations : (file : List ℕ) (s : Stream) → Accepted file (headerOf file) s → (k frame more cursor : ℕ) → Ahead file s (suc k) frame (suc more) cursor
-    → vsyncOperations s (suc k) ≡ getD (s .frames) frame []
-unfolding vsyncOperations
-frame-operations file s acc k frame more cursor ahead = frame-turn file s acc k frame more cursor ahead (λ (n : ℕ). getD (s .frames) n []) []
+operations-frame : (file : List ℕ) (s : Stream) → Accepted file (headerOf file) s → (k frame more cursor : ℕ) → Ahead file s k frame (suc more) cursor
+    → operationsIn s (later k) ≡ getD (s .frames) frame []
+unfolding operationsIn
+operations-frame file s acc k frame more cursor ahead = frame-turn file s acc k frame more cursor ahead (λ (n : ℕ). getD (s .frames) n []) []
 
--- they begin with the wave sources before it, and their writes are the vsync's
-pub frame-along : (file : List ℕ) (s : Stream) → Accepted file (headerOf file) s → (k frame more cursor : ℕ) → Ahead file s (suc k) frame (suc more) cursor
-    → (waves : List WaveSource) → waves ≡ wavesBefore file s (suc k) → Along file s (courseOf file s (suc k) []) 0 (getD (s .frames) frame []) waves
-frame-along file s acc k frame more cursor ahead waves e =
-    along-first file s (courseOf file s (suc k) []) (getD (s .frames) frame []) waves (frame-operations file s acc k frame more cursor ahead ∙ sym (append-nil (getD (s .frames) frame []))) e
+module _ (file : List ℕ) (s : Stream) (acc : Accepted file (headerOf file) s) (d : Due) (k frame more cursor : ℕ) (turn : d .turn ≡ later k) (ahead : Ahead file s k frame (suc more) cursor) where
+  pub due-frame : writesIn s (d .turn) ≡ frameWrites s frame
+  due-frame = ap (writesIn s) turn ∙ writes-frame file s acc k frame more cursor ahead
 
-pub frame-whole : (file : List ℕ) (s : Stream) → Accepted file (headerOf file) s → (k frame more cursor : ℕ) → Ahead file s (suc k) frame (suc more) cursor
-    → vsync s (suc k) ≡ writesOfAll (s .pools) (vsyncOperations s (suc k))
-frame-whole file s acc k frame more cursor ahead =
-    vsync-frame file s acc k frame more cursor ahead ∙ ap (writesOfAll (s .pools)) (sym (frame-operations file s acc k frame more cursor ahead))
+  due-operations : operationsIn s (d .turn) ≡ getD (s .frames) frame []
+  due-operations = ap (operationsIn s) turn ∙ operations-frame file s acc k frame more cursor ahead
+
+  -- they begin with the wave sources before it, and their writes are the vsync's
+  pub frame-along : (waves : List WaveSource) → waves ≡ d .waves → Along file s (courseOf s d []) 0 (getD (s .frames) frame []) waves
+  frame-along waves e = along-first file s (courseOf s d []) (getD (s .frames) frame []) waves (due-operations ∙ sym (append-nil (getD (s .frames) frame []))) e
+
+  pub frame-whole : writesIn s (d .turn) ≡ writesOfAll (s .pools) (operationsIn s (d .turn))
+  frame-whole = due-frame ∙ ap (writesOfAll (s .pools)) (sym due-operations)
 
 -- the first vsync: the opening and frame 1
-pub first-along : (file : List ℕ) (s : Stream) (waves : List WaveSource) → waves ≡ wavesBefore file s 0 → Along file s (courseOf file s 0 (getD (s .frames) 0 [])) 0 (s .opening) waves
-unfolding vsyncOperations
-first-along file s waves e = along-first file s (courseOf file s 0 (getD (s .frames) 0 [])) (s .opening) waves refl e
+pub first-along : (file : List ℕ) (s : Stream) (d : Due) → d .turn ≡ first → (waves : List WaveSource) → waves ≡ d .waves
+    → Along file s (courseOf s d (getD (s .frames) 0 [])) 0 (s .opening) waves
+unfolding operationsIn
+first-along file s d turn waves e = along-first file s (courseOf s d (getD (s .frames) 0 [])) (s .opening) waves (ap (operationsIn s) turn) e
 
-pub first-whole : (s : Stream) → vsync s 0 ≡ writesOfAll (s .pools) (vsyncOperations s 0)
-unfolding vsync vsyncOperations
+pub first-whole : (s : Stream) → writesIn s first ≡ writesOfAll (s .pools) (operationsIn s first)
+unfolding writesIn operationsIn
 first-whole s = sym (writes-append (s .pools) (s .opening) (getD (s .frames) 0 []))
 
--- after the last frame of a stream that does not repeat there are none, and the wave sources stay
-pub no-operations : (s : Stream) → s .repeat ≡ false → (k : ℕ) → 0 < k → length (s .frames) ≤ k → vsyncOperations s k ≡ []
-unfolding vsyncOperations
-no-operations s once zero some after = absurd (omega arith)
-no-operations s once (suc k) some after = rw (once, le-ltb (suc k) (length (s .frames)) after)
+-- after the last frame of a stream that does not repeat there are no operations, and the wave sources stay
+pub no-operations : (s : Stream) → s .repeat ≡ false → (k : ℕ) → length (s .frames) ≤ k → operationsIn s (later k) ≡ []
+unfolding operationsIn
+no-operations s once k after = rw (once, le-ltb k (length (s .frames)) after)
 
-pub waves-still : (file : List ℕ) (s : Stream) → s .repeat ≡ false → (k : ℕ) → 0 < k → length (s .frames) ≤ k → wavesBefore file s (suc k) ≡ wavesBefore file s k
-unfolding wavesBefore wavesByAll
-waves-still file s once k some after = rw (no-operations s once k some after)
+pub waves-still : (file : List ℕ) (s : Stream) → s .repeat ≡ false → (d : Due) (k : ℕ) → d .turn ≡ later k → length (s .frames) ≤ k → nextDue file s d .waves ≡ d .waves
+unfolding wavesByAll
+waves-still file s once d k turn after = rw (turn, no-operations s once k after)
 
 -- and the one after the last frame of a stream that does not repeat
-pub vsync-closing : (file : List ℕ) (s : Stream) → Accepted file (headerOf file) s → s .repeat ≡ false → (k : ℕ) → suc k ≡ length (s .frames) → vsync s (suc k) ≡ closing s
-unfolding vsync
-vsync-closing file s acc once k last = rw (once, le-ltb _ _ (le-of-eq (sym last)), eq-eqb _ _ last)
+pub writes-closing : (s : Stream) → s .repeat ≡ false → (k : ℕ) → k ≡ length (s .frames) → writesIn s (later k) ≡ closing s
+unfolding writesIn
+writes-closing s once k last = rw (once, le-ltb _ _ (le-of-eq (sym last)), eq-eqb _ _ last)
 
-pub vsync-over : (s : Stream) → s .repeat ≡ false → (k : ℕ) → length (s .frames) < suc k → vsync s (suc k) ≡ []
-unfolding vsync
-vsync-over s once k after =
-    let no : suc k ≡ length (s .frames) → ⊥ = λ e. omega arith in
-    rw (once, le-ltb (suc k) (length (s .frames)) (omega arith), ne-eqb _ _ no)
+pub writes-over : (s : Stream) → s .repeat ≡ false → (k : ℕ) → length (s .frames) < k → writesIn s (later k) ≡ []
+unfolding writesIn
+writes-over s once k after =
+    let no : k ≡ length (s .frames) → ⊥ = λ e. omega arith in
+    rw (once, le-ltb k (length (s .frames)) (omega arith), ne-eqb _ _ no)

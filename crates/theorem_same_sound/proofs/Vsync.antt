@@ -20,13 +20,14 @@ use Rattle.base_format.specs.Next.{frameNext, openingNext, closingNext, nextPar
 use Rattle.base_format.specs.Player.{Played, openingBegun, frameBegun, closingAt, playFrame, playOpening, playClosing, play, belongs, as25, call}
 use Rattle.base_format.specs.State.{partOf, unplayed, playerOf, startedAs, started}
 use Rattle.base_format.specs.Stream.{Stream, read}
-use Rattle.base_format.specs.Writes.{closing, vsync}
+use Rattle.base_format.specs.Writes.{Turn, first, later, nextTurn, closing, writesIn}
 use Rattle.base_format.proofs.Accepted.{Accepted, HeaderOk, accepted, header-ok}
+use Rattle.index_laws.proofs.Places.{frame-count}
 use Rattle.theorem_same_sound.proofs.Heard.{Goes}
-use Rattle.theorem_same_sound.proofs.Course.{wavesBefore}
+use Rattle.theorem_same_sound.proofs.Course.{Due, startDue}
 use Rattle.theorem_same_sound.proofs.Phases.{Inside, Ahead, Over, Phase, at-start-of-all, at-opening, at-frame, at-between, at-closing, at-over, Holds, belongs-own}
-use Rattle.theorem_same_sound.proofs.Phases.{again-ahead, vsync-frame, frame-along, frame-whole, waves-still, vsync-closing, vsync-over}
-use Rattle.theorem_same_sound.proofs.Parts.{Plays, played-is, frame-plays, begin-plays, opening-plays, first-plays, closing-plays, count, one-frame}
+use Rattle.theorem_same_sound.proofs.Phases.{again-ahead, waves-still, writes-closing, writes-over}
+use Rattle.theorem_same_sound.proofs.Parts.{Plays, played-is, frame-plays, begin-plays, opening-plays, first-plays, closing-plays, one-frame}
 
 module _ (file : List ℕ) (s : Stream) (acc : Accepted file (headerOf file) s) where
   -- BETWEEN VSYNCS
@@ -47,7 +48,8 @@ module _ (file : List ℕ) (s : Stream) (acc : Accepted file (headerOf file) s) 
       (λ (place frame : ℕ). frameBegun file place frame p >>= playFrame (playerOf file s p) file room) (closes p room)
 
   opened : (p : Progress) (room : ℕ) → p .initialized ≡ true
-      → play (playerOf file s p) file room p Between ≡ cond (ltb (p .«frame_index») (headerOf file .«frame_count»)) (nextFrame p room) (cond (headerOf file .repeat) (firstFrame p room) (closes p room))
+      → play (playerOf file s p) file room p Between
+      ≡ cond (ltb (p .«frame_index») (headerOf file .«frame_count»)) (nextFrame p room) (cond (headerOf file .repeat) (firstFrame p room) (closes p room))
   unfolding play playerOf nextPart
   opened p room e =
       ap (λ (on : Bool). playsNext p room (cond (not on) openingNext (onward (ltb (p .«frame_index») (headerOf file .«frame_count»)) (headerOf file .repeat)))) e
@@ -61,76 +63,72 @@ module _ (file : List ℕ) (s : Stream) (acc : Accepted file (headerOf file) s) 
       go false true = refl
       go false false = refl
 
-  after-last : (p : Progress) (k room : ℕ) → Ahead file s (suc k) (p .«frame_index») 0 (p .cursor) → Inside file p → p .«wave_sources» ≡ wavesBefore file s (suc k)
-      → (again : Bool) → headerOf file .repeat ≡ again → Plays file s (suc k) (vsync s (suc k)) room (cond again (firstFrame p room) (closes p room))
+  after-last : (p : Progress) (d : Due) (k room : ℕ) → d .turn ≡ later k → Ahead file s k (p .«frame_index») 0 (p .cursor) → Inside file p → p .«wave_sources» ≡ d .waves
+      → (again : Bool) → headerOf file .repeat ≡ again → Plays file s d (writesIn s (d .turn)) room (cond again (firstFrame p room) (closes p room))
   unfolding closing
-  after-last p k room ahead inside sources true e =
-      let start = subst (λ (n : ℕ). Ahead file s (suc k) 0 n (headerOf file .«frame_start»)) (one-frame file s acc .1) (again-ahead file s acc (acc .repeat ∙ e) (suc k) (p .«frame_index») (p .cursor) ahead) in
-      rw (vsync-frame file s acc k 0 (one-frame file s acc .0) (headerOf file .«frame_start») start)
-      (begin-plays file s acc p p (suc k) 0 (one-frame file s acc .0) (headerOf file .«frame_start») room start (frame-along file s acc k 0 (one-frame file s acc .0) (headerOf file .«frame_start») start (p .«wave_sources») sources)
-      (frame-whole file s acc k 0 (one-frame file s acc .0) (headerOf file .«frame_start») start))
-  after-last p k room ahead inside sources false e =
+  after-last p d k room turn ahead inside sources true e =
+      let start = subst (λ (n : ℕ). Ahead file s k 0 n (headerOf file .«frame_start»)) (one-frame file s acc .1) (again-ahead file s acc (acc .repeat ∙ e) k (p .«frame_index») (p .cursor) ahead) in
+      begin-plays file s acc p d k 0 (one-frame file s acc .0) (headerOf file .«frame_start») room turn start sources
+  after-last p d k room turn ahead inside sources false e =
       let once : s .repeat ≡ false = acc .repeat ∙ e in
-      let turn : suc k ≡ 0 * headerOf file .«frame_count» + p .«frame_index» = ahead .vsyncs ∙ ap (λ (m : ℕ). m * headerOf file .«frame_count» + p .«frame_index») (ahead .once once) in
-      let last : suc k ≡ length (s .frames) = omega (arith, count file s acc, ahead .counted) in
-      closing-plays file s acc p (closingAt 0 false p) (suc k) (vsync s (suc k)) room (record {
+      let number : k ≡ 0 * headerOf file .«frame_count» + p .«frame_index» = ahead .vsyncs ∙ ap (λ (m : ℕ). m * headerOf file .«frame_count» + p .«frame_index») (ahead .once once) in
+      let last : k ≡ length (s .frames) = omega (arith, frame-count file s acc, ahead .counted) in
+      closing-plays file s acc p (closingAt 0 false p) d (writesIn s (d .turn)) room (record {
         part = refl;
         going = refl;
         once = once;
-        last = last;
+        turn = turn ∙ ap later last;
         within = omega arith;
         sources = sources;
-        is = vsync-closing file s acc once k last;
+        is = ap (writesIn s) turn ∙ writes-closing s once k last;
       }) (record { cursor = inside .cursor; frames = inside .frames; operations = omega arith })
 
-  between-plays : (p : Progress) (k room more : ℕ) → p .initialized ≡ true → 0 < p .«frame_index» → Ahead file s k (p .«frame_index») more (p .cursor) → Inside file p
-      → p .«wave_sources» ≡ wavesBefore file s k → Plays file s k (vsync s k) room (play (playerOf file s p) file room p Between)
-  between-plays p zero room more initialized begun ahead inside sources = absurd (omega (arith, ahead .vsyncs))
-  between-plays p (suc k) room (suc more) initialized begun ahead inside sources =
+  between-plays : (p : Progress) (d : Due) (k room more : ℕ) → p .initialized ≡ true → d .turn ≡ later k → Ahead file s k (p .«frame_index») more (p .cursor) → Inside file p
+      → p .«wave_sources» ≡ d .waves → Plays file s d (writesIn s (d .turn)) room (play (playerOf file s p) file room p Between)
+  between-plays p d k room (suc more) initialized turn ahead inside sources =
       let less : p .«frame_index» < headerOf file .«frame_count» = omega (arith, ahead .counted) in
       let begin = opened p room initialized ∙ ap (λ (b : Bool). cond b (nextFrame p room) (cond (headerOf file .repeat) (firstFrame p room) (closes p room))) (lt-ltb _ _ less) in
-      rw (begin, vsync-frame file s acc k (p .«frame_index») more (p .cursor) ahead)
-      (begin-plays file s acc p p (suc k) (p .«frame_index») more (p .cursor) room ahead (frame-along file s acc k (p .«frame_index») more (p .cursor) ahead (p .«wave_sources») sources)
-      (frame-whole file s acc k (p .«frame_index») more (p .cursor) ahead))
-  between-plays p (suc k) room zero initialized begun ahead inside sources =
+      rw begin (begin-plays file s acc p d k (p .«frame_index») more (p .cursor) room turn ahead sources)
+  between-plays p d k room zero initialized turn ahead inside sources =
       let none : headerOf file .«frame_count» ≤ p .«frame_index» = omega (arith, ahead .counted) in
       let begin = opened p room initialized ∙ ap (λ (b : Bool). cond b (nextFrame p room) (cond (headerOf file .repeat) (firstFrame p room) (closes p room))) (le-ltb _ _ none) in
-      rw begin (after-last p k room ahead inside sources (headerOf file .repeat) refl)
+      rw begin (after-last p d k room turn ahead inside sources (headerOf file .repeat) refl)
 
   -- THE CALL
 
-  abbrev PlaysAs : Progress → ℕ → List WriteRecord → ℕ → Part → Type 0
-  PlaysAs p k rest room part = Plays file s k rest room (play (playerOf file s p) file room p part)
+  abbrev PlaysAs : Progress → Due → List WriteRecord → ℕ → Part → Type 0
+  PlaysAs p d rest room part = Plays file s d rest room (play (playerOf file s p) file room p part)
 
-  start-plays : (room : ℕ) → PlaysAs (unplayed false (headerOf file .«frame_start»)) 0 (vsync s 0) room (partOf (unplayed false (headerOf file .«frame_start») .part))
-  unfolding play nextPart playerOf unplayed wavesBefore
+  start-plays : (room : ℕ) → PlaysAs (unplayed false (headerOf file .«frame_start»)) startDue (writesIn s first) room (partOf (unplayed false (headerOf file .«frame_start») .part))
+  unfolding play nextPart playerOf unplayed
   start-plays room = first-plays file s acc (unplayed false (headerOf file .«frame_start»)) room refl
 
   -- a state that is not finished plays on
-  phase-plays : (p : Progress) (k : ℕ) (rest : List WriteRecord) (room : ℕ) → Inside file p → Phase file s p k rest → p .finished ≡ false → PlaysAs p k rest room (partOf (p .part))
+  phase-plays : (p : Progress) (d : Due) (rest : List WriteRecord) (room : ℕ) → Inside file p → Phase file s p d rest → p .finished ≡ false → PlaysAs p d rest room (partOf (p .part))
   unfolding play
-  phase-plays p k rest room inside (at-start-of-all e none is) going =
-      subst (λ (p : Progress). PlaysAs p k rest room (partOf (p .part))) (sym e) (rw (none, is) (start-plays room))
-  phase-plays p k rest room inside (at-opening phase) going =
-      subst (PlaysAs p k rest room) (sym (phase .part)) (opening-plays file s acc p p k rest room phase inside)
-  phase-plays p k rest room inside (at-frame phase) going =
-      subst (PlaysAs p k rest room) (sym (phase .part)) (frame-plays file s acc p p k rest room phase inside)
-  phase-plays p k rest room inside (at-between phase) going =
-      subst (PlaysAs p k rest room) (sym (phase .part))
-      (subst (λ (r : List WriteRecord). PlaysAs p k r room Between) (sym (phase .is)) (between-plays p k room (phase .more) (phase .initialized) (phase .begun) (phase .ahead) inside (phase .sources)))
-  phase-plays p k rest room inside (at-closing phase) going =
-      subst (PlaysAs p k rest room) (sym (phase .part)) (closing-plays file s acc p p k rest room phase inside)
-  phase-plays p k rest room inside (at-over phase) going = absurd (false≢true (sym going ∙ phase .over))
+  phase-plays p d rest room inside (at-start-of-all e none is) going =
+      subst (λ (p : Progress). PlaysAs p d rest room (partOf (p .part))) (sym e) (rw (none, is) (start-plays room))
+  phase-plays p d rest room inside (at-opening phase) going =
+      subst (PlaysAs p d rest room) (sym (phase .part)) (opening-plays file s acc p p d rest room phase inside)
+  phase-plays p d rest room inside (at-frame phase) going =
+      subst (PlaysAs p d rest room) (sym (phase .part)) (frame-plays file s acc p p d rest room phase inside)
+  phase-plays p d rest room inside (at-between phase) going =
+      subst (PlaysAs p d rest room) (sym (phase .part))
+      (subst (λ (r : List WriteRecord). PlaysAs p d r room Between) (sym (phase .is))
+      (between-plays p d (phase .number) room (phase .more) (phase .initialized) (phase .turn) (phase .ahead) inside (phase .sources)))
+  phase-plays p d rest room inside (at-closing phase) going =
+      subst (PlaysAs p d rest room) (sym (phase .part)) (closing-plays file s acc p p d rest room phase inside)
+  phase-plays p d rest room inside (at-over phase) going = absurd (false≢true (sym going ∙ phase .over))
 
   -- a finished state is over
-  finished-over : (p : Progress) (k : ℕ) (rest : List WriteRecord) → Phase file s p k rest → p .finished ≡ true → Over file s p k rest
+  finished-over : (p : Progress) (d : Due) (rest : List WriteRecord) → Phase file s p d rest → p .finished ≡ true → Over file s p d rest
   unfolding unplayed
-  finished-over p k rest (at-start-of-all e none is) h = absurd (false≢true (sym (ap (λ (p : Progress). p .finished) e) ∙ h))
-  finished-over p k rest (at-opening phase) h = absurd (false≢true (sym (phase .going) ∙ h))
-  finished-over p k rest (at-frame phase) h = absurd (false≢true (sym (phase .going) ∙ h))
-  finished-over p k rest (at-between phase) h = absurd (false≢true (sym (phase .going) ∙ h))
-  finished-over p k rest (at-closing phase) h = absurd (false≢true (sym (phase .going) ∙ h))
-  finished-over p k rest (at-over phase) h = phase
+  finished-over p d rest (at-start-of-all e none is) h = absurd (false≢true (sym (ap (λ (p : Progress). p .finished) e) ∙ h))
+  finished-over p d rest (at-opening phase) h = absurd (false≢true (sym (phase .going) ∙ h))
+  finished-over p d rest (at-frame phase) h = absurd (false≢true (sym (phase .going) ∙ h))
+  finished-over p d rest (at-between phase) h = absurd (false≢true (sym (phase .going) ∙ h))
+  finished-over p d rest (at-closing phase) h = absurd (false≢true (sym (phase .going) ∙ h))
+  finished-over p d rest (at-over phase) h = phase
 
   call-finished : (p : Progress) (room : ℕ) → p .finished ≡ true → call (playerOf file s p) file room ≡ ok (record { records = []; complete = true; next = playerOf file s p })
   unfolding call playerOf
@@ -142,48 +140,64 @@ module _ (file : List ℕ) (s : Stream) (acc : Accepted file (headerOf file) s) 
   call-going p room h =
       ap (λ (b : Bool). cond b (ok (record { records = []; complete = true; next = playerOf file s p })) (as25 (belongs (playerOf file s p) file >> play (playerOf file s p) file room p (partOf (p .part))))) h
 
-  abbrev Called : Progress → ℕ → List WriteRecord → ℕ → Type 0
-  Called p k rest room = Goes s (Holds file s) k rest room (call (playerOf file s p) file room)
+  abbrev Called : Progress → Due → List WriteRecord → ℕ → Type 0
+  Called p d rest room = Goes file s d rest room (call (playerOf file s p) file room)
 
-  over-goes : (p : Progress) (k : ℕ) (rest : List WriteRecord) (room : ℕ) → Inside file p → Over file s p k rest → Called p k rest room
-  over-goes p k rest room inside over =
-      let still : wavesBefore file s (suc k) ≡ wavesBefore file s k = waves-still file s (over .once) k (omega (arith, over .last)) (omega (arith, over .last)) in
-      subst (λ (r : List WriteRecord). Called p k r room) (sym (over .is)) (record {
+  over-goes : (p : Progress) (d : Due) (rest : List WriteRecord) (room : ℕ) → Inside file p → Over file s p d rest → Called p d rest room
+  over-goes p d rest room inside over =
+      subst (λ (r : List WriteRecord). Called p d r room) (sym (over .is)) (record {
         next = playerOf file s p;
         is = call-finished p room (over .over) ∙ played-is _ (sym (take-nil room)) (sym (leb·zero room));
         holds = rw (leb·zero room) (record {
           progress = p;
           is = refl;
           inside = inside;
-          phase = at-over (record { over = over .over; once = over .once; last = omega (arith, over .last); sources = over .sources ∙ sym still; is = vsync-over s (over .once) k (omega (arith, over .last)) });
+          phase = at-over (record {
+            over = over .over;
+            once = over .once;
+            number = suc (over .number);
+            turn = ap nextTurn (over .turn);
+            last = omega (arith, over .last);
+            within = over .within;
+            sources = over .sources ∙ sym (waves-still file s (over .once) d (over .number) (over .turn) (omega (arith, over .last)));
+            is = ap (λ (t : Turn). writesIn s (nextTurn t)) (over .turn) ∙ writes-over s (over .once) (suc (over .number)) (omega (arith, over .last));
+          });
         });
       })
 
-  going-goes : (p : Progress) (k : ℕ) (rest : List WriteRecord) (room : ℕ) → HeaderOk (headerOf file) → Inside file p → p .finished ≡ false → PlaysAs p k rest room (partOf (p .part)) → Called p k rest room
-  going-goes p k rest room header inside going plays =
+  going-goes : (p : Progress) (d : Due) (rest : List WriteRecord) (room : ℕ) → HeaderOk (headerOf file) → Inside file p → p .finished ≡ false
+      → PlaysAs p d rest room (partOf (p .part)) → Called p d rest room
+  going-goes p d rest room header inside going plays =
       record {
         next = playerOf file s (plays .next);
         is = call-going p room going ∙ rw (belongs-own file s acc header p inside, plays .is);
         holds = record { progress = plays .next; is = refl; inside = plays .inside; phase = plays .phase };
       }
 
-  called : (p : Progress) (k : ℕ) (rest : List WriteRecord) (room : ℕ) → HeaderOk (headerOf file) → Inside file p → Phase file s p k rest → Called p k rest room
-  called p k rest room header inside phase = go (p .finished) refl
+  called : (p : Progress) (d : Due) (rest : List WriteRecord) (room : ℕ) → HeaderOk (headerOf file) → Inside file p → Phase file s p d rest → Called p d rest room
+  called p d rest room header inside phase = go (p .finished) refl
     where
-      go : (b : Bool) → p .finished ≡ b → Called p k rest room
-      go true e = over-goes p k rest room inside (finished-over p k rest phase e)
-      go false e = going-goes p k rest room header inside e (phase-plays p k rest room inside phase e)
+      go : (b : Bool) → p .finished ≡ b → Called p d rest room
+      go true e = over-goes p d rest room inside (finished-over p d rest phase e)
+      go false e = going-goes p d rest room header inside e (phase-plays p d rest room inside phase e)
 
 -- THE ONE LEMMA
 
-pub one-lemma : (file : List ℕ) (s : Stream) → read file ≡ ok s → (state : StreamPlayer) (k : ℕ) (rest : List WriteRecord) → Holds file s state k rest → (room : ℕ) → Goes s (Holds file s) k rest room (call state file room)
-one-lemma file s e state k rest holds room =
+pub one-lemma : (file : List ℕ) (s : Stream) → read file ≡ ok s → (state : StreamPlayer) (d : Due) (rest : List WriteRecord) → Holds file s state d rest → (room : ℕ)
+    → Goes file s d rest room (call state file room)
+one-lemma file s e state d rest holds room =
     let both = accepted file s e in
-    subst (λ (st : StreamPlayer). Goes s (Holds file s) k rest room (call st file room)) (sym (holds .is)) (called file s (both .0) (holds .progress) k rest room (header-ok file (both .1)) (holds .inside) (holds .phase))
+    subst (λ (st : StreamPlayer). Goes file s d rest room (call st file room)) (sym (holds .is))
+    (called file s (both .0) (holds .progress) d rest room (header-ok file (both .1)) (holds .inside) (holds .phase))
 
 -- a start holds
-pub start-holds : (file : List ℕ) (s : Stream) → read file ≡ ok s → Holds file s (started file) 0 (vsync s 0)
+pub start-holds : (file : List ℕ) (s : Stream) → read file ≡ ok s → Holds file s (started file) startDue (writesIn s first)
 unfolding startedAs unplayed
 start-holds file s e =
     let both = accepted file s e in
-    record { progress = unplayed false (headerOf file .«frame_start»); is = rw e; inside = record { cursor = both .0 .first-within; frames = omega arith; operations = omega arith }; phase = at-start-of-all refl refl refl }
+    record {
+      progress = unplayed false (headerOf file .«frame_start»);
+      is = rw e;
+      inside = record { cursor = both .0 .first-within; frames = omega arith; operations = omega arith };
+      phase = at-start-of-all refl refl refl;
+    }

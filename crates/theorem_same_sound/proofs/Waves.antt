@@ -12,15 +12,16 @@ use lib.Seq.{getD-set-same, getD-set-other}
 use Rattle.base_format.specs.declared.operation.Operation.{Operation}
 use Rattle.base_format.specs.declared.operation.Operation.the-variants.{Write, Fill, Copy}
 use Rattle.base_format.specs.declared.player.WaveSource.{WaveSource}
-use Rattle.base_format.specs.Checked.{ok}
+use Rattle.base_format.specs.Checked.{ok, refused}
 use Rattle.base_format.specs.Header.{headerOf}
 use Rattle.base_format.specs.Operation.{allowed}
 use Rattle.base_format.specs.Player.{wavesBy}
 use Rattle.base_format.specs.Pool.{noPool, poolAt}
 use Rattle.base_format.specs.State.{noWave, poolIn}
 use Rattle.base_format.specs.Stream.{Stream, operationsFrom, framesFrom}
-use Rattle.base_format.specs.WaveSources.{copiedBy, lastCopied, begun, operationsBefore}
-use Rattle.base_format.specs.Writes.{writesOf, vsyncOperations}
+use Rattle.base_format.specs.Steps.{Answer, ofCall, ofJump, turnOf}
+use Rattle.base_format.specs.WaveSources.{copiedBy, lastCopied, begun, begunBy}
+use Rattle.base_format.specs.Writes.{Turn, first, later, nextTurn, writesOf, operationsIn}
 use Rattle.base_format.proofs.Accepted.{Accepted}
 use Rattle.base_format.proofs.Checks.{ok-is}
 use Rattle.base_format.proofs.Rules.{copy-allowed}
@@ -93,30 +94,37 @@ module _ (file : List ℕ) (s : Stream) (acc : Accepted file (headerOf file) s) 
       (go (step .frame .0) (step .others .0) k (operations-kept (length file) _ _ (step .frame) (step .here)) (frames-kept count (step .frame .1) (step .others) (step .from)))
     where
       go : (frame : List Operation) (others : List (List Operation)) (k : ℕ) → AllKept file s frame → ((k : ℕ) → AllKept file s (getD others k [])) → AllKept file s (getD (frame ∷ others) k [])
-      go frame others zero first more = first
-      go frame others (suc k) first more = more k
+      go frame others zero here more = here
+      go frame others (suc k) here more = more k
 
-  pub vsync-kept : (k : ℕ) → AllKept file s (vsyncOperations s k)
-  unfolding vsyncOperations
-  vsync-kept k = go k
+  either : (b : Bool) (x y : List Operation) → AllKept file s x → AllKept file s y → AllKept file s (cond b x y)
+  either true x y h h′ = h
+  either false x y h h′ = h′
+
+  turn-kept : (turn : Turn) → AllKept file s (operationsIn s turn)
+  unfolding operationsIn
+  turn-kept turn = go turn
     where
       frame : (k : ℕ) → AllKept file s (getD (s .frames) k [])
       frame k = frames-kept (headerOf file .«frame_count») (headerOf file .«frame_start») (s .frames, length file) (acc .frames) k
 
-      either : (b : Bool) (x y : List Operation) → AllKept file s x → AllKept file s y → AllKept file s (cond b x y)
-      either true x y h h′ = h
-      either false x y h h′ = h′
-
-      go : (k : ℕ) → AllKept file s (vsyncOperations s k)
-      go zero =
+      go : (turn : Turn) → AllKept file s (operationsIn s turn)
+      go first =
           kept-append file s (s .opening) _
           (operations-kept _ (headerOf file .«initial_count») (headerOf file .«initial_start») (s .opening, headerOf file .«frame_start») (acc .opening)) (frame 0)
-      go (suc k) = either (s .repeat) _ _ (frame (suc k % length (s .frames))) (either (ltb (suc k) (length (s .frames))) _ _ (frame (suc k)) tt)
+      go (later k) = either (s .repeat) _ _ (frame (k % length (s .frames))) (either (ltb k (length (s .frames))) _ _ (frame k) tt)
 
-  pub before-kept : (k : ℕ) → AllKept file s (operationsBefore s k)
-  unfolding operationsBefore
-  before-kept zero = tt
-  before-kept (suc k) = kept-append file s (operationsBefore s k) (vsyncOperations s k) (before-kept k) (vsync-kept k)
+  pub begun-kept : (turn : Turn) (n : ℕ) (told : List Answer) → AllKept file s (begunBy s turn n told)
+  unfolding begunBy
+  begun-kept turn n [] = kept-begun file s n (operationsIn s turn) (turn-kept turn)
+  begun-kept turn n (ofCall (refused number place) ∷ more) = begun-kept turn n more
+  begun-kept turn n (ofCall (ok answer) ∷ more) =
+      either (answer .complete) _ _
+      (kept-append file s (operationsIn s turn) (begunBy s (nextTurn turn) 0 more) (turn-kept turn) (begun-kept (nextTurn turn) 0 more))
+      (begun-kept turn (n + length (answer .records)) more)
+  begun-kept turn n (ofJump frame (refused number place) ∷ more) = begun-kept turn n more
+  begun-kept turn n (ofJump frame (ok next) ∷ more) =
+      kept-append file s (begun (s .pools) n (operationsIn s turn)) (begunBy s (turnOf frame) 0 more) (kept-begun file s n (operationsIn s turn) (turn-kept turn)) (begun-kept (turnOf frame) 0 more)
 
 -- THE POOL LAST COPIED
 
