@@ -1,4 +1,4 @@
-/* The SGUB library: the verdict on a stream file, its cards and its pools, the player, repacking, and the comparison.
+/* The SGUB library: the verdict on a stream file, its cards and its pools, the player, indexes and jumps, repacking, and the comparison.
  *
  * Every function takes any bytes, ends, and keeps no pointer. A file is a pointer and a length; a file of length 0 may have any
  * pointer but NULL. What the numbers mean is in the format sheet's list of refusals. */
@@ -170,6 +170,37 @@ struct sgub_vsync sgub_advance_vsync(struct sgub_player *player, const uint8_t *
 
 /* The pool last copied to a channel of a core by the player, with the COPY's first write; none outside of 2 cores and 8 channels. */
 struct sgub_wave_source sgub_wave_source(struct sgub_player player, size_t core, size_t channel);
+
+/* INDEXES AND JUMPS. The index of a file says where the counts of frames 1, 65, 129 and so on stand. A jump sets a player to a frame. */
+
+/* The most bytes of an index: one of 114,688 entries, for a file of empty frames. */
+#define SGUB_LONGEST_INDEX 458764
+
+/* The answer of building an index. */
+struct sgub_indexed {
+    uint32_t number; /* 0: written; else the number of the first refusal, 1 to 20, or 24: the buffer is too short */
+    uint64_t place;  /* the place of the refusal */
+    uint64_t size;   /* the length of the index; 0 for a refusal */
+};
+
+/* Checks the whole file and builds its index into a buffer of room bytes. The index stands at the buffer's start, and the bytes behind it
+ * stay as they were; a refusal writes nothing. An index has 4 bytes for each 64 frames, rounded up, and 12 more; SGUB_LONGEST_INDEX bytes
+ * are room for every index. The buffer may not overlap the file; a buffer of 0 bytes may have any pointer but NULL. */
+struct sgub_indexed sgub_index(const uint8_t *file, size_t length, uint8_t *buffer, size_t room);
+
+/* The answer of a jump. */
+struct sgub_jumped {
+    uint32_t number; /* 0: the player is at the frame; else the number of the first refusal, and nothing was changed: 1 to 20 for the
+                      * file; 25: player and file do not belong together; 26: the index is not the one that sgub_index builds of this
+                      * file; 27: the frame is 0 or above the frame count */
+    uint64_t place;  /* the place of the refusal */
+};
+
+/* Sets a player to a frame, counted from 1: the next vsync gives that frame's writes, and the later ones follow as usual. Writes that
+ * are left over from a vsync are dropped, wave sources stay, and the opening is not played. The whole file is checked. A finished
+ * player plays again. Player, file and index do not overlap; an index of 0 bytes may have any pointer but NULL. */
+struct sgub_jumped sgub_jump(struct sgub_player *player, const uint8_t *file, size_t length, const uint8_t *index, size_t index_length,
+                             uint32_t frame);
 
 /* The answer of repacking. */
 struct sgub_repacked {

@@ -14,7 +14,7 @@ use Rattle.base_format.specs.Written.{framesBytes, framesPlace, endPlace
 abbrev pub framePlace : Stream → (frame : ℕ) → ℕ
 framePlace s frame = framesPlace s + length (framesBytes (s .version) (take frame (s .frames)))
 
--- "the u32 place of the count of frames 1, 65, 129 and so on": so many, from a frame on
+-- "the u32 place of the count" of frames 1, 65, 129 "and so on": so many of them, from a frame on
 unfoldable pub placesFrom : Stream → (count frame : ℕ) → List Field
 placesFrom s zero frame = []
 placesFrom s (suc count) frame = u32 (framePlace s frame) ∷ placesFrom s count (frame + indexSpacing)

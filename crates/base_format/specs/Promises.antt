@@ -156,6 +156,13 @@ OwnFileJumps =
     jumped state file index frame
     ≡ (refuse 26 0 (not (sameBytes index (indexOf s))) >> (refuse 27 0 (noFrame (length (s .frames)) frame) >> ok (moved state (beforeFrame s (frame - 1) (state .progress)))))
 
+-- with the file's own index it is not 26 either
+abbrev pub OwnIndexJumps : Type 0
+OwnIndexJumps =
+    (file : List ℕ) (s : Stream) → read file ≡ ok s → (steps : List Step) → AllAdmissibleSteps file (started file) steps → (frame : ℕ)
+    → let state = reachedBy (started file) steps in
+    jumped state file (indexOf s) frame ≡ (refuse 27 0 (noFrame (length (s .frames)) frame) >> ok (moved state (beforeFrame s (frame - 1) (state .progress))))
+
 -- behind it "the next vsync gives that frame's writes and later ones as usual"
 abbrev pub BehindJump : Type 0
 BehindJump =

@@ -7,6 +7,7 @@ use base_format::Header;
 use base_format::Part;
 use base_format::Progress;
 use base_format::StreamPlayer;
+pub use progress::before_frame;
 pub use progress::closing_at;
 pub use progress::frame_begun;
 pub use progress::frame_ended;

@@ -12,7 +12,7 @@ use base_position::position_of;
 ghost use mathlib.Core.Bool.{true, false};
 ghost use mathlib.Core.Path.{_≡_};
 ghost use Rattle.base_format.specs.Player.{placed, openingBegun, frameEnded, closingAt};
-ghost use Rattle.base_format.specs.State.{frameFrom, progressAt, unplayed};
+ghost use Rattle.base_format.specs.State.{betweenAt, frameFrom, progressAt, unplayed};
 
 // The one place where a progress is made.
 fn progress_at(at: Position, initialized: bool, finished: bool, waves: [WaveSource; 16]) -> Progress
@@ -66,6 +66,15 @@ pub fn frame_ended(progress: Progress) -> Progress
     let waves = progress.wave_sources;
     let at = between_at(progress.cursor, progress.frame_index);
     progress_at(at, true, false, waves)
+}
+
+// Before a frame whose count stands at the cursor, with so many frames of the pass begun: a jump sets a player so. The wave sources stay,
+// and the opening counts as played.
+pub fn before_frame(progress: Progress, cursor: usize, frame: u32) -> Progress
+    ensures { λ r. ⌜ r ≡ progressAt (betweenAt cursor frame) true false (progress .«wave_sources») ⌝ }
+{
+    let waves = progress.wave_sources;
+    progress_at(between_at(cursor, frame), true, false, waves)
 }
 
 // The progress at a cursor, with so many operations done, and so many writes of the operation there.

@@ -2,7 +2,7 @@
 use base_format::Header;
 use base_format::MASTER_HEADER_SIZE;
 use base_format::RECORD_SIZE;
-use compare_image_bytes::same_bytes;
+use bytes_same::same_bytes;
 use compare_images::draw_master;
 use compare_images::draw_other;
 use compare_writes::same_frames;

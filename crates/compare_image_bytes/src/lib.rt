@@ -1,9 +1,8 @@
-// Memory images: one value or some bytes of a file, stored in one, and whether two agree.
+// Memory images: one value or some bytes of a file, stored in one.
 use bytes_read::byte_at;
 ghost use mathlib.Core.Path.{_≡_};
 ghost use Prim.Native.Nat.{_+_, _≤_};
 ghost use lib.ListN.{length, replicate};
-ghost use Rattle.base_format.specs.Bytes.{sameBytes};
 ghost use Rattle.base_format.specs.Compare.{played};
 ghost use Rattle.base_format.specs.Writes.{upward};
 ghost use Rattle.compare_segment.specs.Segments.{spread};
@@ -43,21 +42,4 @@ pub fn begin_image(image: &mut [u8])
     ensures { λ _. ⌜ now (image .exit) ≡ replicate (length (now (image .entry))) 0x80 ⌝ }
 {
     fill(image, 0, image.len(), 0x80);
-}
-
-// Whether two images have the same bytes.
-pub fn same_bytes(a: &[u8], b: &[u8]) -> bool
-    ensures { λ r. ⌜ r ≡ sameBytes (now (a .entry)) (now (b .entry)) ⌝ }
-{
-    if a.len() != b.len() {
-        return false;
-    }
-    let mut i = 0;
-    while i < a.len() {
-        if a[i] != b[i] {
-            return false;
-        }
-        i += 1;
-    }
-    true
 }

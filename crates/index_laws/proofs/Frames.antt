@@ -1,11 +1,11 @@
 -- Passing over the frames of an accepted file leads from place to place.
-use Prim.Native.Nat.{ℕ, zero, suc, _+_, _*_, _^_, _≤_, _<_, min}
+use Prim.Native.Nat.{ℕ, zero, suc, _+_, _*_, _-_, _^_, _≤_, _<_, min}
 use mathlib.Core.Bool.{Bool, true, false, cond}
 use mathlib.Core.List.{List}
 use mathlib.Core.Path.{_≡_, refl, sym, ap, _∙_}
 use native.Mathlib.Nat.{add-zero}
 use native.Mathlib.Omega.{arith}
-use borrow.Author.Tests.{lt-ltb, ltb-true}
+use borrow.Author.Tests.{le-ltb, lt-ltb, ltb-true}
 use lib.Dec.{eqb, ltb}
 use lib.ListN.{length}
 use Rattle.base_format.specs.declared.operation.Operation.{Operation}
@@ -13,7 +13,7 @@ use Rattle.base_format.specs.Bytes.{AllBytes, byte, be}
 use Rattle.base_format.specs.Checked.{ok}
 use Rattle.base_format.specs.Header.{headerOf}
 use Rattle.base_format.specs.Index.{framePlace}
-use Rattle.base_format.specs.Operation.{Setting, Item, addressWidth, sizeOf, operationAt, recordAt, itemAt}
+use Rattle.base_format.specs.Operation.{Setting, Item, addressWidth, sizeOf, itemAt}
 use Rattle.base_format.specs.Stream.{Stream, operationsFrom}
 use Rattle.base_format.proofs.Accepted.{Accepted}
 use Rattle.base_format.proofs.Bytes.{be-below}
@@ -21,7 +21,7 @@ use Rattle.base_format.proofs.Checks.{ok-is}
 use Rattle.base_format.proofs.Sizes.{size-is, size-most, width-range}
 use Rattle.base_format.proofs.Steps.{record-is, operation-is, operation-step}
 use Rattle.index_laws.specs.Frames.{walkLimit, itemSize, itemsEnd, frameEnd, framesEnd}
-use Rattle.index_laws.proofs.Places.{ownSetting, frame-operations, frame-within}
+use Rattle.index_laws.proofs.Places.{ownSetting, frame-operations}
 
 -- where the walk goes on
 goes-on : (file : List ℕ) (at : ℕ) → at < length file → length file ≤ 0xE00000 → ltb at (walkLimit file) ≡ true
@@ -32,7 +32,9 @@ record-next : (setting : Setting) (file : List ℕ) (limit at : ℕ) (item : Ite
 unfolding itemAt
 record-next setting file limit at item one e = ap (λ (i : Item). i .next) (sym (record-is setting file limit at item (rw one at e) .is))
 
-records-next : (setting : Setting) (file : List ℕ) (limit count at : ℕ) (found : List Operation × ℕ) → eqb (setting .version) 1 ≡ true → operationsFrom setting file limit count at ≡ ok found → found .1 ≡ at + count * 5
+records-next : (setting : Setting) (file : List ℕ) (limit count at : ℕ) (found : List Operation × ℕ) → eqb (setting .version) 1 ≡ true
+    → operationsFrom setting file limit count at ≡ ok found
+    → found .1 ≡ at + count * 5
 unfolding operationsFrom
 records-next setting file limit zero at found one e = ap (λ (f : List Operation × ℕ). f .1) (sym (ok-is e)) ∙ omega arith
 records-next setting file limit (suc count) at found one e =
@@ -42,7 +44,9 @@ records-next setting file limit (suc count) at found one e =
     ap (λ (f : List Operation × ℕ). f .1) (sym (step .is)) ∙ omega (arith, more, mine)
 
 -- operations, of a file that the walk goes through
-operation-next : (setting : Setting) (file : List ℕ) (at : ℕ) (item : Item) → eqb (setting .version) 1 ≡ false → itemAt setting file (length file) at ≡ ok item → (at < length file) × (item .next ≡ at + itemSize (addressWidth (setting .version)) file at)
+operation-next : (setting : Setting) (file : List ℕ) (at : ℕ) (item : Item) → eqb (setting .version) 1 ≡ false
+    → itemAt setting file (length file) at ≡ ok item
+    → (at < length file) × (item .next ≡ at + itemSize (addressWidth (setting .version)) file at)
 unfolding itemAt
 operation-next setting file at item other e =
     let found = operation-is setting file (length file) at item (rw other at e) in
@@ -51,7 +55,9 @@ operation-next setting file at item other e =
     let opcode : byte file at ≡ min (byte file at) 2 = omega (arith, found .known) in
     (omega (arith, found .room, size, range .0), ap (λ (i : Item). i .next) (sym (found .is)) ∙ ap (λ (n : ℕ). at + sizeOf (addressWidth (setting .version)) n) opcode)
 
-operations-next : (setting : Setting) (file : List ℕ) (count at : ℕ) (found : List Operation × ℕ) → length file ≤ 0xE00000 → eqb (setting .version) 1 ≡ false → operationsFrom setting file (length file) count at ≡ ok found → found .1 ≡ itemsEnd (addressWidth (setting .version)) file count at
+operations-next : (setting : Setting) (file : List ℕ) (count at : ℕ) (found : List Operation × ℕ) → length file ≤ 0xE00000
+    → eqb (setting .version) 1 ≡ false → operationsFrom setting file (length file) count at ≡ ok found
+    → found .1 ≡ itemsEnd (addressWidth (setting .version)) file count at
 unfolding operationsFrom itemsEnd
 operations-next setting file zero at found small other e = ap (λ (f : List Operation × ℕ). f .1) (sym (ok-is e))
 operations-next setting file (suc count) at found small other e =
@@ -102,7 +108,9 @@ items-small : (width : ℕ) (file : List ℕ) (count at : ℕ) → 3 ≤ width �
 unfolding itemsEnd
 items-small width file zero at low high small = small
 items-small width file (suc count) at low high small =
-    still-or-near file at (itemsEnd width file count (at + itemSize width file at)) small (λ near. items-small width file count (at + itemSize width file at) low high (omega (arith, size-most width (min (byte file at) 2) low high (omega arith))))
+    let next = at + itemSize width file at in
+    let most = size-most width (min (byte file at) 2) low high (omega arith) in
+    still-or-near file at (itemsEnd width file count next) small (λ near. items-small width file count next low high (omega arith))
 
 frame-small : (version : ℕ) (file : List ℕ) (at : ℕ) → AllBytes file → at < 2 ^ 32 → frameEnd version file at < 2 ^ 32
 unfolding frameEnd
@@ -116,3 +124,28 @@ pub frames-small : (version : ℕ) (file : List ℕ) (count at : ℕ) → AllByt
 unfolding framesEnd
 frames-small version file zero at bytes small = small
 frames-small version file (suc count) at bytes small = frames-small version file count (frameEnd version file at) bytes (frame-small version file at bytes small)
+
+-- ITS STEPS
+
+pub items-step : (width : ℕ) (file : List ℕ) (count at : ℕ) → 0 < count → at < walkLimit file → itemsEnd width file count at ≡ itemsEnd width file (count - 1) (at + itemSize width file at)
+unfolding itemsEnd
+items-step width file zero at some less = absurd (omega arith)
+items-step width file (suc count) at some less = let left : suc count - 1 ≡ count = omega arith in rw (left, lt-ltb at (walkLimit file) less)
+
+pub items-still : (width : ℕ) (file : List ℕ) (count at : ℕ) → walkLimit file ≤ at → itemsEnd width file count at ≡ at
+unfolding itemsEnd
+items-still width file zero at past = refl
+items-still width file (suc count) at past = rw (le-ltb at (walkLimit file) past)
+
+pub items-none : (width : ℕ) (file : List ℕ) (at : ℕ) → itemsEnd width file 0 at ≡ at
+unfolding itemsEnd
+items-none width file at = refl
+
+pub frames-step : (version : ℕ) (file : List ℕ) (count at : ℕ) → 0 < count → framesEnd version file count at ≡ framesEnd version file (count - 1) (frameEnd version file at)
+unfolding framesEnd
+frames-step version file zero at some = absurd (omega arith)
+frames-step version file (suc count) at some = let left : suc count - 1 ≡ count = omega arith in rw left
+
+pub frames-none : (version : ℕ) (file : List ℕ) (at : ℕ) → framesEnd version file 0 at ≡ at
+unfolding framesEnd
+frames-none version file at = refl

@@ -8,7 +8,7 @@ use native.Mathlib.Nat.{zero-add, div-lt-iff-lt-mul}
 use native.Mathlib.Omega.{arith}
 use borrow.Author.Tests.{le-ltb}
 use lib.Dec.{eqb, lit≤, lit<}
-use lib.ListN.{length, drop, length-append}
+use lib.ListN.{length, drop}
 use lib.Seq.{drop-append-add, drop-length}
 use Rattle.base_format.specs.Bytes.{AllBytes, Field, be, bytesOf, bytesOfAll, u32}
 use Rattle.base_format.specs.Checked.{ok}
@@ -38,7 +38,8 @@ pub index-long : (s : Stream) → length (indexOf s) ≡ entryCount s * 4 + 12
 unfolding indexOf
 index-long s = fields-size (indexFields s) ∙ places-long s (entryCount s) 0 (trailer s)
 
-header-room : (version : ℕ) → 20 ≤ headerSize version
+-- a header has 20 bytes at least
+pub header-room : (version : ℕ) → 20 ≤ headerSize version
 unfolding headerSize
 header-room version = go (eqb version 4) (eqb version 2 || eqb version 3)
   where
@@ -81,7 +82,8 @@ fields-fit file s acc =
     places-fit file s acc (entryCount s) 0 (trailer s) (back, (count, (size, tt)))
 
 -- from entry i on the index has that entry's 4 bytes
-entry-here : (s : Stream) (count frame i : ℕ) (rest : List Field) → i < count → (behind : List ℕ) × (drop (i * 4) (bytesOfAll (placesFrom s count frame ++ rest)) ≡ bytesOf 4 (framePlace s (frame + i * 64)) ++ behind)
+entry-here : (s : Stream) (count frame i : ℕ) (rest : List Field) → i < count
+    → (behind : List ℕ) × (drop (i * 4) (bytesOfAll (placesFrom s count frame ++ rest)) ≡ bytesOf 4 (framePlace s (frame + i * 64)) ++ behind)
 unfolding placesFrom bytesOfAll
 entry-here s zero frame i rest less = absurd (omega arith)
 entry-here s (suc count) frame zero rest less =
@@ -104,7 +106,8 @@ index-entry file s e i less =
     be-here (indexOf s) (i * 4) (found .0) 4 (framePlace s (i * 64)) here (place-fits file s (accepted file s e .0) (i * 64))
 
 -- bytes are the index exactly if they are as many and each number reads as it should: so a jump can test an index where it lies
-pub index-right : (file : List ℕ) (s : Stream) → read file ≡ ok s → (index : List ℕ) → AllBytes index → (index ≡ indexOf s) ↔ ((length index ≡ entryCount s * 4 + 12) × Holds index 0 0 (indexFields s))
+pub index-right : (file : List ℕ) (s : Stream) → read file ≡ ok s → (index : List ℕ) → AllBytes index
+    → (index ≡ indexOf s) ↔ ((length index ≡ entryCount s * 4 + 12) × Holds index 0 0 (indexFields s))
 unfolding indexOf
 index-right file s e index bytes = (there, back)
   where
@@ -124,7 +127,8 @@ index-right file s e index bytes = (there, back)
 -- THE WALK BUILDS IT
 
 -- so many entries from a frame on, the last of a frame that is there
-entries-are : (file : List ℕ) (s : Stream) → Accepted file (headerOf file) s → (count frame : ℕ) → frame + count * 64 < length (s .frames) + 64 → entriesWalk (headerOf file .version) file count (framePlace s frame) ≡ placesFrom s count frame
+entries-are : (file : List ℕ) (s : Stream) → Accepted file (headerOf file) s → (count frame : ℕ) → frame + count * 64 < length (s .frames) + 64
+    → entriesWalk (headerOf file .version) file count (framePlace s frame) ≡ placesFrom s count frame
 unfolding entriesWalk placesFrom
 entries-are file s acc zero frame most = refl
 entries-are file s acc (suc zero) frame most = refl

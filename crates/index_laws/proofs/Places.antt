@@ -27,14 +27,13 @@ use Rattle.base_format.proofs.Steps.{pool-step, record-is, operation-is, operat
 
 -- HOW LONG WHAT IS READ IS
 
-abbrev ItemLong : Setting → (at : ℕ) → Item → Type 0
-ItemLong setting at item = item .next ≡ at + length (itemBytes (setting .version) (item .operation))
-
-item-long : (setting : Setting) (file : List ℕ) (limit at : ℕ) (item : Item) → itemAt setting file limit at ≡ ok item → ItemLong setting at item
+item-long : (setting : Setting) (file : List ℕ) (limit at : ℕ) (item : Item) → itemAt setting file limit at ≡ ok item
+    → item .next ≡ at + length (itemBytes (setting .version) (item .operation))
 unfolding itemAt itemBytes
 item-long setting file limit at item = go (eqb (setting .version) 1)
   where
-    go : (b : Bool) → cond b (recordAt setting file limit at) (operationAt setting file limit at) ≡ ok item → item .next ≡ at + length (bytesOfAll (cond b (withoutFirst (operationFields 3 (item .operation))) (operationFields (addressWidth (setting .version)) (item .operation))))
+    go : (b : Bool) → cond b (recordAt setting file limit at) (operationAt setting file limit at) ≡ ok item
+        → item .next ≡ at + length (bytesOfAll (cond b (withoutFirst (operationFields 3 (item .operation))) (operationFields (addressWidth (setting .version)) (item .operation))))
     go true e =
         let found = record-is setting file limit at item e in
         subst (λ (i : Item). i .next ≡ at + length (bytesOfAll (withoutFirst (operationFields 3 (i .operation))))) (found .is) (rw (fields-size _))
@@ -42,18 +41,24 @@ item-long setting file limit at item = go (eqb (setting .version) 1)
         let found = operation-is setting file limit at item e in
         let w = addressWidth (setting .version) in
         let range = width-range (setting .version) in
-        subst (λ (i : Item). i .next ≡ at + length (bytesOfAll (operationFields w (i .operation)))) (found .is) (rw (fields-size _, size-is w _ (range .0) (range .1) (found .known), fields-long file w at _ (found .known)))
+        subst (λ (i : Item). i .next ≡ at + length (bytesOfAll (operationFields w (i .operation)))) (found .is)
+        (rw (fields-size _, size-is w _ (range .0) (range .1) (found .known), fields-long file w at _ (found .known)))
 
-operations-long : (setting : Setting) (file : List ℕ) (limit count at : ℕ) (found : List Operation × ℕ) → operationsFrom setting file limit count at ≡ ok found → found .1 ≡ at + length (operationsBytes (setting .version) (found .0))
+operations-long : (setting : Setting) (file : List ℕ) (limit count at : ℕ) (found : List Operation × ℕ)
+    → operationsFrom setting file limit count at ≡ ok found
+    → found .1 ≡ at + length (operationsBytes (setting .version) (found .0))
 unfolding operationsFrom operationsBytes
 operations-long setting file limit zero at found e = subst (λ (f : List Operation × ℕ). f .1 ≡ at + length (operationsBytes (setting .version) (f .0))) (ok-is e) (omega arith)
 operations-long setting file limit (suc count) at found e =
     let step = operation-step setting file limit count at found e in
     let mine = item-long setting file limit at (step .item) (step .here) in
     let more = operations-long setting file limit count (step .item .next) (step .others) (step .from) in
-    subst (λ (f : List Operation × ℕ). f .1 ≡ at + length (operationsBytes (setting .version) (f .0))) (step .is) (omega (arith, mine, more, length-append (itemBytes (setting .version) (step .item .operation)) (operationsBytes (setting .version) (step .others .0))))
+    subst (λ (f : List Operation × ℕ). f .1 ≡ at + length (operationsBytes (setting .version) (f .0))) (step .is)
+    (simp length-append (omega (arith, mine, more)))
 
-pools-long : (version : ℕ) (file : List ℕ) (directory count id start : ℕ) (found : List Payload × ℕ) → poolsFrom version file directory count id start ≡ ok found → (length (found .0) ≡ count) × (found .1 ≡ start + length (payloadsBytes (found .0)))
+pools-long : (version : ℕ) (file : List ℕ) (directory count id start : ℕ) (found : List Payload × ℕ)
+    → poolsFrom version file directory count id start ≡ ok found
+    → (length (found .0) ≡ count) × (found .1 ≡ start + length (payloadsBytes (found .0)))
 unfolding poolsFrom payloadsBytes
 pools-long version file directory zero id start found e =
     subst (λ (f : List Payload × ℕ). (length (f .0) ≡ 0) × (f .1 ≡ start + length (payloadsBytes (f .0)))) (ok-is e) (refl, omega arith)
@@ -62,12 +67,15 @@ pools-long version file directory (suc count) id start found e =
     let size = poolAt file directory id .size in
     let more = pools-long version file directory count (suc id) (start + size) (step .others) (step .from) in
     let here : length (part file start size) ≡ size = omega (arith, length-take size (drop start file), length-drop start file, step .within) in
-    subst (λ (f : List Payload × ℕ). (length (f .0) ≡ suc count) × (f .1 ≡ start + length (payloadsBytes (f .0)))) (step .is) (ap suc (more .0), omega (arith, more .1, here, length-append (part file start size) (payloadsBytes (step .others .0))))
+    subst (λ (f : List Payload × ℕ). (length (f .0) ≡ suc count) × (f .1 ≡ start + length (payloadsBytes (f .0)))) (step .is)
+    (ap suc (more .0), omega (arith, more .1, here, length-append (part file start size) (payloadsBytes (step .others .0))))
 
 -- FRAMES
 
 -- as many frames are read as are asked for
-pub frames-read-count : (setting : Setting) (file : List ℕ) (count at : ℕ) (frames : List (List Operation)) (end : ℕ) → framesFrom setting file count at ≡ ok (frames, end) → length frames ≡ count
+pub frames-read-count : (setting : Setting) (file : List ℕ) (count at : ℕ) (frames : List (List Operation)) (end : ℕ)
+    → framesFrom setting file count at ≡ ok (frames, end)
+    → length frames ≡ count
 unfolding framesFrom
 frames-read-count setting file zero at frames end e = ap (λ (x : List (List Operation) × ℕ). length (x .0)) (sym (ok-is e))
 frames-read-count setting file (suc count) at frames end e =
@@ -75,7 +83,9 @@ frames-read-count setting file (suc count) at frames end e =
     ap (λ (x : List (List Operation) × ℕ). length (x .0)) (sym (step .is)) ∙ ap suc (frames-read-count setting file count (step .frame .1) (step .others .0) (step .others .1) (step .from))
 
 -- where some frames are read, the later ones are read from where the written earlier ones end
-frames-behind : (setting : Setting) (file : List ℕ) (count more at : ℕ) (frames : List (List Operation)) (end : ℕ) → framesFrom setting file (count + more) at ≡ ok (frames, end) → framesFrom setting file more (at + length (framesBytes (setting .version) (take count frames))) ≡ ok (drop count frames, end)
+frames-behind : (setting : Setting) (file : List ℕ) (count more at : ℕ) (frames : List (List Operation)) (end : ℕ)
+    → framesFrom setting file (count + more) at ≡ ok (frames, end)
+    → framesFrom setting file more (at + length (framesBytes (setting .version) (take count frames))) ≡ ok (drop count frames, end)
 unfolding framesBytes
 frames-behind setting file zero more at frames end e = rw add-zero (rw zero-add at e)
 frames-behind setting file (suc count) more at frames end e =
@@ -86,8 +96,10 @@ frames-behind setting file (suc count) more at frames end e =
     let behind = frames-behind setting file count more (step .frame .1) (step .others .0) (step .others .1) (step .from) in
     let two : length (bytesOfAll (u16 (length (step .frame .0)) ∷ [])) ≡ 2 = fields-size _ in
     let rest = framesBytes v (take count (step .others .0)) in
-    let place : step .frame .1 + length rest ≡ at + length (bytesOfAll (u16 (length (step .frame .0)) ∷ []) ++ (operationsBytes v (step .frame .0) ++ rest)) = omega (arith, mine, two, length-append (bytesOfAll (u16 (length (step .frame .0)) ∷ [])) (operationsBytes v (step .frame .0) ++ rest), length-append (operationsBytes v (step .frame .0)) rest) in
-    subst (λ (f : List (List Operation) × ℕ). framesFrom setting file more (at + length (framesBytes v (take (suc count) (f .0)))) ≡ ok (drop (suc count) (f .0), f .1)) (step .is) (ap (framesFrom setting file more) (sym place) ∙ behind)
+    let place : step .frame .1 + length rest ≡ at + length (bytesOfAll (u16 (length (step .frame .0)) ∷ []) ++ (operationsBytes v (step .frame .0) ++ rest)) =
+    simp length-append (omega (arith, mine, two)) in
+    subst (λ (f : List (List Operation) × ℕ). framesFrom setting file more (at + length (framesBytes v (take (suc count) (f .0)))) ≡ ok (drop (suc count) (f .0), f .1)) (step .is)
+    (ap (framesFrom setting file more) (sym place) ∙ behind)
 
 -- some frames are written no longer than all of them
 some-long : (version count : ℕ) (frames : List (List Operation)) → length (framesBytes version (take count frames)) ≤ length (framesBytes version frames)
@@ -95,23 +107,18 @@ unfolding framesBytes
 some-long version zero frames = omega arith
 some-long version (suc count) [] = omega arith
 some-long version (suc count) (frame ∷ frames) =
-    let head = bytesOfAll (u16 (length frame) ∷ []) in
-    let some = framesBytes version (take count frames) in
-    let all = framesBytes version frames in
-    omega (arith, some-long version count frames, length-append head (operationsBytes version frame ++ some), length-append (operationsBytes version frame) some, length-append head (operationsBytes version frame ++ all), length-append (operationsBytes version frame) all)
+    simp length-append (omega (arith, some-long version count frames))
 
 -- and with one more by its count and its operations
-one-long : (version : ℕ) (frames : List (List Operation)) (frame : List Operation) → length (framesBytes version (frames ++ (frame ∷ []))) ≡ length (framesBytes version frames) + (2 + length (operationsBytes version frame))
+one-long : (version : ℕ) (frames : List (List Operation)) (frame : List Operation)
+    → length (framesBytes version (frames ++ (frame ∷ []))) ≡ length (framesBytes version frames) + (2 + length (operationsBytes version frame))
 unfolding framesBytes
 one-long version [] frame =
     let head = bytesOfAll (u16 (length frame) ∷ []) in
     let two : length head ≡ 2 = fields-size _ in
     omega (arith, two, length-append head (operationsBytes version frame ++ []), length-append (operationsBytes version frame) [])
 one-long version (first ∷ frames) frame =
-    let head = bytesOfAll (u16 (length first) ∷ []) in
-    let some = framesBytes version frames in
-    let all = framesBytes version (frames ++ (frame ∷ [])) in
-    omega (arith, one-long version frames frame, length-append head (operationsBytes version first ++ some), length-append (operationsBytes version first) some, length-append head (operationsBytes version first ++ all), length-append (operationsBytes version first) all)
+    simp length-append (omega (arith, one-long version frames frame))
 
 -- what the rules for an operation of an accepted file go by
 abbrev pub ownSetting : List ℕ → Stream → Setting
@@ -167,8 +174,8 @@ module _ (file : List ℕ) (s : Stream) (acc : Accepted file (headerOf file) s) 
       let operations = step .frame .0 in
       let long = operations-long (ownSetting file s) file (length file) (be 2 file (framePlace s frame)) (framePlace s frame + 2) (step .frame) (step .here) in
       let first : take 1 (drop frame (s .frames)) ≡ operations ∷ [] = ap (λ (f : List (List Operation) × ℕ). take 1 (f .0)) (sym (step .is)) in
-      let parts : take (frame + 1) (s .frames) ≡ take frame (s .frames) ++ (operations ∷ []) = take-add frame 1 (s .frames) ∙ ap (λ (l : List (List Operation)). take frame (s .frames) ++ l) first in
+      let parts = take-add frame 1 (s .frames) ∙ ap (λ (l : List (List Operation)). take frame (s .frames) ++ l) first in
       let total = ap (λ (l : List (List Operation)). length (framesBytes (s .version) l)) parts ∙ one-long (s .version) (take frame (s .frames)) operations in
-      let end : step .frame .1 ≡ framePlace s frame + 2 + length (operationsBytes (s .version) operations) = long ∙ ap (λ (v : ℕ). framePlace s frame + 2 + length (operationsBytes v operations)) (sym (acc .version)) in
+      let end = long ∙ ap (λ (v : ℕ). framePlace s frame + 2 + length (operationsBytes v operations)) (sym (acc .version)) in
       let next : step .frame .1 ≡ framePlace s (frame + 1) = omega arith in
       (operations, step .room, step .here ∙ ap (λ (n : ℕ). ok (operations, n)) next)

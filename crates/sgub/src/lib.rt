@@ -1,13 +1,16 @@
 // The static library's surface: include/sgub.h declares these functions for C, rust/sgub for Rust. What an answer is as plain numbers
 // is in the crates sgub_answers and sgub_pool_list.
 mod comparison;
+mod indexing;
 mod player;
 mod pools;
 mod repacking;
 
 pub use comparison::sgub_compare;
+pub use indexing::sgub_index;
 pub use player::SgubStarted;
 pub use player::sgub_advance_vsync;
+pub use player::sgub_jump;
 pub use player::sgub_start;
 pub use player::sgub_wave_source;
 pub use pools::sgub_pools;

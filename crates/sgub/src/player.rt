@@ -1,14 +1,16 @@
-// The player for C and Rust: its start, and one vsync call over a lent state, file and run.
+// The player for C and Rust: its start, and one vsync call and one jump over a lent state.
 use base_format::StreamPlayer;
 use base_format::Verdict;
 use base_format::WaveSource;
 use base_format::WriteRecord;
 use play::Vsync;
+use play_jump::Jumped;
 use play_wave_source::CopiedPool;
 use play_wave_source::wave_source;
 ghost use mathlib.Core.Path.{_≡_};
 ghost use Rattle.base_format.specs.State.{started, waveSource};
 ghost use Rattle.base_format.specs.Stream.{read};
+ghost use Rattle.play_jump.specs.Jumped.{JumpMade};
 ghost use Rattle.play_start.specs.Start.{verdictIn};
 ghost use Rattle.play_planned.specs.Vsync.{Advanced};
 ghost use Rattle.sgub.specs.Player.{startFields, sourceFields};
@@ -55,6 +57,19 @@ pub extern "C" fn sgub_advance_vsync(
     ensures { λ r. ⌜ Advanced (now (player .entry)) (now (file .entry)) (now (run .entry)) r (now (player .exit)) (now (run .exit)) ⌝ }
 {
     play::advance_vsync(player, file, run)
+}
+
+// `jump_to_frame` itself, under its exported name. A refused jump changes nothing.
+#[no_mangle]
+pub extern "C" fn sgub_jump(
+    player: &mut StreamPlayer,
+    file: &[u8],
+    index: &[u8],
+    frame: u32,
+) -> Jumped
+    ensures { λ r. ⌜ JumpMade (now (player .entry)) (now (file .entry)) (now (index .entry)) frame r (now (player .exit)) ⌝ }
+{
+    play_jump::jump_to_frame(player, file, index, frame)
 }
 
 // The pool last copied to a channel of a core, as the state holds it; not copied, and 0, where none was and outside of 2 × 8.

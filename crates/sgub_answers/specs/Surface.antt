@@ -11,6 +11,7 @@ use Rattle.check_file.specs.Answer.{Recorded}
 use Rattle.sgub_answers.specs.declared.verdict.SgubVerdict.{SgubVerdict}
 use Rattle.sgub_answers.specs.declared.card.SgubCard.{SgubCard}
 use Rattle.sgub_answers.specs.declared.pool.SgubPool.{SgubPool}
+use Rattle.sgub_answers.specs.declared.indexed.SgubIndexed.{SgubIndexed}
 use Rattle.sgub_answers.specs.declared.repacked.SgubRepacked.{SgubRepacked}
 use Rattle.sgub_answers.specs.declared.comparison.SgubCompared.{SgubCompared}
 
@@ -75,6 +76,10 @@ kindIn (refused number place) = 0
 abbrev pub repackedOn : Checked ℕ → SgubRepacked
 repackedOn (ok size) = record { number = 0; place = 0; size = size }
 repackedOn (refused number place) = record { number = number; place = place; size = 0 }
+
+abbrev pub indexedOn : Checked ℕ → SgubIndexed
+indexedOn (ok size) = record { number = 0; place = 0; size = size }
+indexedOn (refused number place) = record { number = number; place = place; size = 0 }
 
 -- a refusal with the file that it names, 1 for the master and 2 for the other, and 0 where none is refused
 abbrev pub comparedOn : Compared → SgubCompared

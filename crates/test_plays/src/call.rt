@@ -1,8 +1,8 @@
 // One stored call, replayed. Its 16 bytes are the length of the lent file, the length of the run, the place and the value of a byte
 // that is changed before the call, and the answer: flags, count, frames begun and the number of the records.
-use crate::records::mix_call;
 use base_format::StreamPlayer;
 use play_plan::plan_call;
+use test_records::mix_call;
 
 // Whether the answer was the stored one, and the player behind the call.
 pub struct Replayed {

@@ -1,7 +1,6 @@
 // Replays stored vsync calls: data/plays.bin has, for each script, the length of a file and the number of calls, each of four bytes,
 // the file, and 16 bytes for each call. rust/README.md says how it is made.
 mod call;
-mod records;
 
 use base_format::StreamPlayer;
 use test_vectors::Counts;

@@ -1,12 +1,12 @@
 -- A jump with the player's own file: what it gives on every state that such a player reaches.
 use Prim.Native.Nat.{ℕ, suc, _+_, _-_, _≤_, _<_}
-use mathlib.Core.Bool.{Bool, true, false, cond, not, _||_}
+use mathlib.Core.Bool.{false, not}
 use mathlib.Core.List.{List}
 use mathlib.Core.Path.{_≡_, refl, sym, ap, subst}
 use native.Mathlib.Nat.{zero-mul}
 use native.Mathlib.Omega.{arith}
 use borrow.Author.Tests.{ne-eqb, le-ltb, ltb-false}
-use lib.Dec.{eqb, ltb, lit≤}
+use lib.Dec.{eqb, ltb}
 use lib.ListN.{length, drop}
 use Rattle.base_format.specs.declared.operation.WriteRecord.{WriteRecord}
 use Rattle.base_format.specs.declared.player.Part.{Part}
@@ -15,7 +15,7 @@ use Rattle.base_format.specs.declared.player.Progress.{Progress}
 use Rattle.base_format.specs.declared.player.StreamPlayer.{StreamPlayer}
 use Rattle.base_format.specs.Bytes.{byte, sameBytes}
 use Rattle.base_format.specs.Checked.{ok, refused, refuse, _>>_}
-use Rattle.base_format.specs.Header.{headerSize, headerOf}
+use Rattle.base_format.specs.Header.{headerOf}
 use Rattle.base_format.specs.Index.{framePlace, indexOf}
 use Rattle.base_format.specs.Jump.{recordsOther, closingPast, jumpBelongs, beforeFrame, noFrame, jumped}
 use Rattle.base_format.specs.Player.{belongs}
@@ -27,6 +27,7 @@ use Rattle.base_format.proofs.Accepted.{Accepted, HeaderOk, accepted, header-ok
 use Rattle.base_format.proofs.Cards.{table-cards}
 use Rattle.base_format.proofs.Checks.{or-false, positive}
 use Rattle.base_format.proofs.Equal.{bool-self}
+use Rattle.index_laws.proofs.Index.{header-room}
 use Rattle.index_laws.proofs.Places.{frame-count, frames-at}
 use Rattle.theorem_same_sound.proofs.Course.{Due}
 use Rattle.theorem_same_sound.proofs.Phases.{Ahead, Phase, at-start-of-all, at-opening, at-frame, at-between, at-closing, at-over, Holds, belongs-own, frames-onward, writes-frame}
@@ -127,19 +128,9 @@ module _ (file : List ℕ) (s : Stream) (e : read file ≡ ok s) where
       let found = ahead (frame - 1) (frame-exists frame h) in
       writes-frame file s acc (frame - 1) (frame - 1) (found .0) (framePlace s (frame - 1)) (found .1)
 
--- a header has some bytes
-header-some : (version : ℕ) → 20 ≤ headerSize version
-unfolding headerSize
-header-some version = go (eqb version 4) (eqb version 2 || eqb version 3)
-  where
-    go : (four pooled : Bool) → 20 ≤ cond four 48 (cond pooled 40 20)
-    go true pooled = lit≤ tt
-    go false true = lit≤ tt
-    go false false = lit≤ tt
-
 -- the state of a refused start: 25 for every file that passes 1 to 20
 pub refused-start-jump : (file index : List ℕ) (s : Stream) (frame : ℕ) → read file ≡ ok s → jumped refusedPlayer file index frame ≡ refused 25 0
 unfolding jumped jumpBelongs belongs refusedPlayer
 refused-start-jump file index s frame e =
     let room = accepted file s e .1 .room in
-    rw (e, ne-eqb (length file) 0 (λ none. omega (arith, none, header-some (byte file 4), room)))
+    rw (e, ne-eqb (length file) 0 (λ none. omega (arith, none, header-room (byte file 4), room)))

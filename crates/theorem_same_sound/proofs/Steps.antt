@@ -16,7 +16,7 @@ use Rattle.base_format.specs.Index.{indexOf}
 use Rattle.base_format.specs.Jump.{beforeFrame, noFrame, jumped, stateAfter}
 use Rattle.base_format.specs.Listener.{Call, after, Admissible, ownFile, refusedBytes, finishedState}
 use Rattle.base_format.specs.Player.{Played, call}
-use Rattle.base_format.specs.Promises.{OwnFilePlaysOn, OwnFileJumps, EachVsyncOfSteps}
+use Rattle.base_format.specs.Promises.{OwnFilePlaysOn, OwnFileJumps, OwnIndexJumps, EachVsyncOfSteps}
 use Rattle.base_format.specs.State.{started, moved}
 use Rattle.base_format.specs.Steps.{Step, vsyncCall, jump, Answer, ofCall, ofJump, stepAnswers, reachedBy, AdmissibleJump, jumpOwnFile, jumpRefused, AllAdmissibleSteps}
 use Rattle.base_format.specs.Steps.{restingSteps, completedAllBegun, stepRecordsFrom, turnOf, completedFrom, dueFrom, dueTurn, writesInAll}
@@ -24,6 +24,7 @@ use Rattle.base_format.specs.Stream.{Stream, read}
 use Rattle.base_format.specs.WaveSources.{begun, begunBy}
 use Rattle.base_format.specs.Writes.{first, writesIn, operationsIn}
 use Rattle.base_format.proofs.Checks.{refused-not-ok, and-true}
+use Rattle.base_format.proofs.Equal.{bytes-self}
 use Rattle.theorem_same_sound.proofs.Course.{wavesByAll, waves-append, Due, nextDue, startDue}
 use Rattle.theorem_same_sound.proofs.Heard.{Goes, finished-any}
 use Rattle.theorem_same_sound.proofs.Jump.{own-jump, jumpDue, jump-holds}
@@ -225,3 +226,6 @@ own-file-plays-on = never-refused
 
 pub own-file-jumps : OwnFileJumps
 own-file-jumps = jump-reached
+
+pub own-index-jumps : OwnIndexJumps
+own-index-jumps file s accepted steps admissible frame = own-file-jumps file s accepted steps admissible (indexOf s) frame ∙ rw (bytes-self (indexOf s))

@@ -4,7 +4,7 @@ use crate::status::{Failure, Status};
 use std::io::Write;
 
 const HELP: &str = "\
-sgub checks, plays, repacks and compares SGUB music streams.
+sgub checks, plays, indexes, repacks and compares SGUB music streams.
 
   sgub check FILE...         print a line for each file:
                                accepted VERSION FRAMES OPENING
@@ -12,7 +12,7 @@ sgub checks, plays, repacks and compares SGUB music streams.
   sgub explain [--all] FILE  print the line and what is behind it: for a refused file
                              the rule that it breaks and the bytes at the place, for an
                              accepted one its header, cards and pools (--all: every pool)
-  sgub explain NUMBER        print the rule of a refusal, 1 to 25, with its limits, what its
+  sgub explain NUMBER        print the rule of a refusal, 1 to 27, with its limits, what its
                              place is and which commands print it; a file whose name is
                              a number is given as ./16
   sgub play [OPTION]... FILE print the writes of one pass and of the end: for each call
@@ -21,6 +21,18 @@ sgub checks, plays, repacks and compares SGUB music streams.
        --vsyncs N            play N vsyncs instead
        --run N               lend each call N write records (default 4096)
        --summary             print only how many writes each vsync has, by target
+       --from FRAME          start at this frame, counted from 1, without the opening, as
+                             vsync 1; a frame that the file does not have is refused (27)
+       --index INDEX         take the file's index from here, where 'sgub index' has written
+                             it; one that is not the file's is refused (26). Without
+                             --index the index is built in memory
+  sgub index FILE [INDEX]    write the index of a file, for play --from, beside the file as
+                             FILE.index or where INDEX says, and print
+                               indexed BYTES
+                               refused NUMBER PLACE
+                             Standard input has no name: index - needs INDEX
+       --force               replace INDEX if another file than an index is there, as
+                             repack does RESULT; an index is replaced without it
   sgub repack MASTER RESULT  repack a file of version 1 as one of version 2 and print
                                repacked BYTES
                                refused NUMBER PLACE

@@ -15,7 +15,7 @@ use std::os::unix::fs::MetadataExt;
 const LONGEST: u64 = 1 << 32;
 
 /// The name of standard input.
-const STANDARD_INPUT: &str = "-";
+pub const STANDARD_INPUT: &str = "-";
 
 /// Splits arguments into options, which must be known, and files. Behind `--` every argument is a file.
 pub fn files<'a>(

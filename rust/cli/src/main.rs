@@ -6,6 +6,7 @@ mod check;
 mod compare;
 mod explain;
 mod help;
+mod index;
 mod input;
 mod output;
 mod play;
@@ -36,6 +37,7 @@ fn run(arguments: &[OsString], out: &mut impl Write) -> Result<Status, Failure> 
         Some("check") => check::run(arguments, out),
         Some("compare") => compare::run(arguments, out),
         Some("explain") => explain::run(arguments, out),
+        Some("index") => index::run(arguments, out),
         Some("play") => play::run(arguments, out),
         Some("repack") => repack::run(arguments, out),
         Some("help" | "--help" | "-h") => help::help(out),

@@ -1,32 +1,32 @@
-//! `sgub play FILE`: the writes of a file, call by call, or how many there are.
+//! `sgub play FILE`: the writes of a file, from its start or from a frame, call by call, or how many there are.
 
+mod options;
 mod summary;
 mod text;
 
 use crate::input;
 use crate::status::{Failure, Status};
-use sgub::{StreamPlayer, WriteRecord};
-use std::ffi::OsString;
+use options::Options;
+use sgub::{Refusal, StreamPlayer, WriteRecord};
+use std::ffi::{OsStr, OsString};
 use std::io::{BufWriter, Write};
 use summary::Summary;
 
-/// Records of the run where no option says.
-const RUN: usize = 4096;
-
-/// The most records of a run: 16 million, which is 192 MiB.
-const LONGEST_RUN: u64 = 1 << 24;
-
-/// Plays one file.
+/// Plays one file. File and index are read before anything is said of them.
 pub fn run(arguments: &[OsString], out: &mut impl Write) -> Result<Status, Failure> {
     let (options, rest) = Options::read(arguments)?;
     let (_, files) = input::files(&rest, &[])?;
     let [name] = files.as_slice() else {
         return Err(Failure::usage("play takes one file"));
     };
+    let index = options.index.as_deref();
+    let read: Vec<&OsStr> = [*name].into_iter().chain(index).collect();
+    input::standard_input_once(&read)?;
     let file = input::read(name)?;
+    let index = index.map(input::read).transpose()?;
     // Standard output is written line by line, which is too slow for many writes.
     let mut out = BufWriter::with_capacity(1 << 16, out);
-    let status = match StreamPlayer::start(&file) {
+    let status = match start(&file, index, options.from) {
         Ok(player) => {
             play(player, &file, &options, &mut out)?;
             Status::Accepted
@@ -40,55 +40,17 @@ pub fn run(arguments: &[OsString], out: &mut impl Write) -> Result<Status, Failu
     Ok(status)
 }
 
-/// What the options say.
-struct Options {
-    vsyncs: Option<u64>,
-    run: usize,
-    summary: bool,
-}
-
-impl Options {
-    /// The options, and the arguments that are none of them.
-    fn read(arguments: &[OsString]) -> Result<(Self, Vec<OsString>), Failure> {
-        let mut options = Self {
-            vsyncs: None,
-            run: RUN,
-            summary: false,
+/// The player of a file, at the frame that is asked for. Without an index it is built first.
+fn start(file: &[u8], index: Option<Vec<u8>>, from: Option<u32>) -> Result<StreamPlayer, Refusal> {
+    let mut player = StreamPlayer::start(file)?;
+    if let Some(frame) = from {
+        let index = match index {
+            Some(index) => index,
+            None => sgub::build_index(file)?,
         };
-        let mut rest = Vec::new();
-        let mut arguments = arguments.iter();
-        while let Some(argument) = arguments.next() {
-            match argument.to_str() {
-                Some("--vsyncs") => {
-                    options.vsyncs = Some(number("--vsyncs", arguments.next(), 0, u64::MAX)?);
-                }
-                Some("--run") => {
-                    options.run = number("--run", arguments.next(), 1, LONGEST_RUN)? as usize;
-                }
-                Some("--summary") => options.summary = true,
-                other => {
-                    rest.push(argument.clone());
-                    if other == Some("--") {
-                        rest.extend(arguments.by_ref().cloned());
-                    }
-                }
-            }
-        }
-        Ok((options, rest))
+        player.jump_to_frame(file, &index, frame)?;
     }
-}
-
-/// The number behind an option.
-fn number(
-    option: &str,
-    argument: Option<&OsString>,
-    least: u64,
-    most: u64,
-) -> Result<u64, Failure> {
-    argument
-        .and_then(|argument| argument.to_str()?.parse().ok())
-        .filter(|number| (least..=most).contains(number))
-        .ok_or_else(|| Failure::usage(format!("{option} needs a number from {least} to {most}")))
+    Ok(player)
 }
 
 /// Plays as many vsyncs as are asked for.
@@ -98,13 +60,14 @@ fn play(
     options: &Options,
     out: &mut impl Write,
 ) -> Result<(), Failure> {
-    let one_pass = u64::from(player.frame_count()) + u64::from(!player.repeats());
+    let frames = player.frame_count() - player.frame_index();
+    let to_the_end = u64::from(frames) + u64::from(!player.repeats());
     let mut run = vec![WriteRecord::default(); options.run];
     let mut summary = options.summary.then(Summary::new);
     if summary.is_some() {
         summary::head(out)?;
     }
-    for vsync in 1..=options.vsyncs.unwrap_or(one_pass) {
+    for vsync in 1..=options.vsyncs.unwrap_or(to_the_end) {
         loop {
             let told = player
                 .advance_vsync(file, &mut run)

@@ -6,6 +6,9 @@
 pub mod comparisons;
 pub mod examples;
 pub mod generators;
+pub mod indexes;
+pub mod jumps;
+pub mod lent;
 pub mod model;
 pub mod oracle;
 pub mod plays;

@@ -200,6 +200,7 @@ pub fn wave_source(player: Player, core: usize, channel: usize) -> WaveSource {
 }
 
 pub mod comparison;
+pub mod index;
 pub mod repack;
 
 #[cfg(test)]

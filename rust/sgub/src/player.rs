@@ -88,6 +88,25 @@ impl StreamPlayer {
         }
     }
 
+    /// Sets the player to a frame, counted from 1, by the index that [`build_index`](crate::build_index) gives.
+    ///
+    /// The next vsync gives that frame's writes, and the later ones follow as usual. Writes that are left over from a vsync are
+    /// dropped, wave sources stay, and the opening is not played. A finished player plays again. The whole file is checked at
+    /// each call.
+    ///
+    /// # Errors
+    ///
+    /// The first refusal that applies, and the player is as it was: 1 to 20 where [`check`](crate::check) refuses the file; 25
+    /// where player and file do not belong together, so that the file has another header, other cards or another use of target
+    /// 11 than the player's; 26 where the index is not the file's; 27 where the frame is 0 or above the frame count.
+    pub fn jump_to_frame(&mut self, file: &[u8], index: &[u8], frame: u32) -> Result<(), Refusal> {
+        let jumped = ffi::index::jump(&mut self.0, file, index, frame);
+        match refusal(jumped.number, jumped.place) {
+            Some(refusal) => Err(refusal),
+            None => Ok(()),
+        }
+    }
+
     /// Format version, 1 to 4.
     #[must_use]
     pub fn version(&self) -> u8 {

@@ -140,9 +140,10 @@ file of version 2.
 
 /// What may be too short, for rule 24.
 pub const LENT: &str = "\
-Repacking needs a buffer as long as the result. Comparing needs two images of 1,048,576
-bytes, and says which file's image is too short, the master's first. A run of write
-records is never too short, not even one without records.
+Repacking needs a buffer as long as the result, and building an index one as long as the
+index. Comparing needs two images of 1,048,576 bytes, and says which file's image is too
+short, the master's first. A run of write records is never too short, not even one
+without records.
 ";
 
 /// When player and file do not belong together, for rule 25.
@@ -165,4 +166,27 @@ frame count behind it; any other is read by the first call of its vsync.
 A player never gets 25 with its own file, if each earlier call that read a file and was
 not refused had that file too. A call on a finished player reads no file and never gets
 25.
+
+A jump checks the whole file first (1 to 20), also for a finished player. It then gets
+25 where one of the first four points is so, or where the file's header, its cards or
+its use of target 11 are not those that the player recorded.
+";
+
+/// What an index is, for rule 26.
+pub const INDEX: &str = "\
+The index says where the counts of frames 1, 65, 129 and so on stand. Each number has
+four bytes, highest first:
+  part      numbers
+  entries   one place for each 64 frames, rounded up
+  trailer   4 times the number of entries, the number of entries, the file's total size
+
+It is compared byte for byte with one that is built of the file. To build it again:
+  sgub index FILE [INDEX]
+Without --index, sgub play --from builds it by itself.
+";
+
+/// Which frames there are, for rule 27.
+pub const FRAMES: &str = "\
+Frames are counted from 1 on. sgub check prints their number behind the version:
+  accepted VERSION FRAMES OPENING
 ";

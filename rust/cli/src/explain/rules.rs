@@ -1,4 +1,4 @@
-//! The refusals 1 to 25 in words for whoever has to mend a file. The format sheet decides; docs/RULES.md has the same words.
+//! The refusals 1 to 27 in words for whoever has to mend a file. The format sheet decides; docs/RULES.md has the same words.
 
 use super::details;
 use super::text::wrapped;
@@ -57,7 +57,7 @@ const fn check(words: &'static str, place: &'static str, details: &'static [&'st
     Rule {
         words,
         place,
-        printed_by: "check, explain, play, repack, compare",
+        printed_by: "check, explain, play, index, repack, compare",
         details,
     }
 }
@@ -76,7 +76,7 @@ const fn beside(
     }
 }
 
-const RULES: [Rule; 25] = [
+const RULES: [Rule; 27] = [
     // 1
     check(
         "The file is too short for its header, which has 48 bytes if there is a byte 4 and it is 4, 40 bytes if it \
@@ -228,9 +228,22 @@ const RULES: [Rule; 25] = [
     ),
     // 25
     beside(
-        "A player and the file that is lent to its vsync call do not belong together.",
+        "A player and the file that is lent to its vsync call or jump do not belong together.",
         "no command, since each plays a file by its own player; a program that calls the library can get it",
         &[details::BELONGING, details::READING],
+    ),
+    // 26
+    beside(
+        "Jumping only: the index is not this file's. It is damaged, or it was built for another file or before this \
+         one was changed.",
+        "play --from with --index",
+        &[details::INDEX],
+    ),
+    // 27
+    beside(
+        "Jumping only: the file has no frame of this number, which is 0 or above the number of frames.",
+        "play --from",
+        &[details::FRAMES],
     ),
 ];
 
@@ -242,10 +255,10 @@ mod tests {
     use std::path::Path;
 
     #[test]
-    fn there_are_25() {
-        assert!(rule(0).is_none() && rule(26).is_none());
+    fn there_are_27() {
+        assert!(rule(0).is_none() && rule(28).is_none());
         assert!(rule(4).unwrap().words.contains("voice count"));
-        assert_eq!(LAST, 25);
+        assert_eq!(LAST, 27);
     }
 
     #[test]

@@ -5,11 +5,21 @@ use std::fs::{self, File};
 use std::process::Command;
 
 /// The commands with standard input for a file.
-const COMMANDS: [&[&str]; 7] = [
+const COMMANDS: [&[&str]; 10] = [
     &["check", "-"],
     &["explain", "-"],
     &["play", "-"],
     &["play", "--summary", "-"],
+    &["play", "--from", "1", "-"],
+    &[
+        "play",
+        "--from",
+        "1",
+        "--index",
+        "-",
+        "examples/scale-2.sgub",
+    ],
+    &["index", "-", "result"],
     &["repack", "-", "result"],
     &["compare", "-", "examples/tune-2.sgub"],
     &["compare", "examples/tune-1.sgub", "-"],
@@ -58,6 +68,7 @@ fn standard_input_is_not_read_twice() {
         &["check", "-", "-"][..],
         &["check", "-", "examples/empty-1.sgub", "--", "-"],
         &["compare", "-", "-"],
+        &["play", "--from", "1", "--index", "-", "-"],
     ] {
         run(arguments, 2, "", message);
     }

@@ -33,6 +33,23 @@ fn bad_usage_is_status_2() {
         &["play", "x", "--vsyncs"],
         "--vsyncs needs a number from 0 to 18446744073709551615",
     );
+    for from in [
+        &["--from"][..],
+        &["--from", "-1"],
+        &["--from", "+1"],
+        &["--from", ""],
+        &["--from", "1x"],
+    ] {
+        refused(
+            &[&["play", "x"], from].concat(),
+            "--from needs the number of a frame",
+        );
+    }
+    refused(
+        &["play", "x", "--from", "1", "--index"],
+        "--index needs a file",
+    );
+    refused(&["play", "x", "--index", "y"], "--index is for --from");
     for run in ["0", "-1", "16777217", "x"] {
         refused(
             &["play", "--run", run, "x"],
@@ -50,6 +67,7 @@ fn help_names_every_command() {
         "explain [--all] FILE",
         "explain NUMBER",
         "play [OPTION]... FILE",
+        "index FILE [INDEX]",
         "repack MASTER RESULT",
         "compare MASTER OTHER",
         "help",

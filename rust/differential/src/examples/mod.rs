@@ -3,17 +3,17 @@
 mod refused;
 
 use crate::model::{Card, FIRST_SLOT, Operation, PCM, Pool, SI22, Stream, WAVE};
-use crate::oracle;
+use crate::{indexes, oracle};
 
 /// A file of `examples/`.
 pub struct Example {
-    /// Its name, without the ending `.sgub`.
+    /// Its name, without the ending `.sgub`, or `.index` for an index.
     pub name: &'static str,
     /// Its bytes.
     pub file: Vec<u8>,
 }
 
-/// All of them. What each is for stands in `examples/README.md`.
+/// All stream files. What each is for stands in `examples/README.md`.
 ///
 /// # Panics
 /// If the original does not repack the master.
@@ -29,12 +29,25 @@ pub fn all() -> Vec<Example> {
         example("tune-2", repacked.clone()),
         example("bank-3", bank().to_bytes()),
         example("cards-4", cards().to_bytes()),
+        example("scale-2", scale().to_bytes()),
     ];
     examples.extend(refused::all(&repacked));
     examples
 }
 
-/// The file of a name.
+/// All indexes: the one of `scale-2.sgub`, beside it, and the same with a wrong place for frame 65.
+///
+/// # Panics
+/// If the original does not play the scale.
+pub fn all_indexes() -> Vec<Example> {
+    let example = |name, file| Example { name, file };
+    let own = indexes::by_original(&scale().to_bytes()).expect("the original plays the scale");
+    let mut damaged = own.clone();
+    damaged[7] ^= 1;
+    vec![example("scale-2.sgub", own), example("refused-26", damaged)]
+}
+
+/// The stream file of a name.
 ///
 /// # Panics
 /// If there is none.
@@ -119,6 +132,34 @@ fn cards() -> Stream {
             ],
         ],
         ..Stream::empty_frame(4)
+    }
+}
+
+/// Version 2 with 130 frames, so that its index has three entries: a wave in the opening, and a note higher than the one before in every
+/// fourth frame.
+fn scale() -> Stream {
+    let frame = |frame: u16| {
+        let [high, low] = (440 + 20 * frame).to_be_bytes();
+        match frame % 4 {
+            0 => vec![
+                Operation::write(0, 0x800, low),
+                Operation::write(0, 0x801, high),
+                Operation::write(0, 0x819, 1),
+            ],
+            _ => Vec::new(),
+        }
+    };
+    Stream {
+        pools: vec![Pool {
+            kind: 1,
+            payload: triangle(),
+        }],
+        opening: vec![
+            Operation::copy(0, 0, 0, 0, WAVE),
+            Operation::write(0, 0x803, 0xc0),
+        ],
+        frames: (0..130).map(frame).collect(),
+        ..Stream::empty_frame(2)
     }
 }
 

@@ -149,6 +149,11 @@ impl Player {
         self.stream.frame_index()
     }
 
+    /// The place that its reader has reached: between vsyncs that of the next frame's count, or the file's end.
+    pub fn cursor(&self) -> usize {
+        self.stream.cursor()
+    }
+
     /// The wave pool last copied to a channel of a core.
     pub fn wave_source(&self, core: usize, channel: usize) -> Option<u16> {
         self.stream.wave_source(core, channel)
@@ -197,6 +202,11 @@ impl CountingPlayer {
         self.stream.is_finished()
     }
 
+    /// Frames played in this pass.
+    pub fn frame_index(&self) -> u32 {
+        self.stream.frame_index()
+    }
+
     /// The calls that each core got; a PCM write is a call to both.
     pub fn tallies(&self) -> [Tally; 2] {
         self.cores
@@ -208,6 +218,25 @@ impl CountingPlayer {
     pub fn device_writes(&self) -> u64 {
         self.device_writes
     }
+}
+
+/// The place of each frame's count, as the original's reader reaches it. One pass is played for them.
+///
+/// # Errors
+/// The original's message, if it refuses the file.
+///
+/// # Panics
+/// If the original fails on a file that it accepted.
+pub fn frame_places(file: &[u8]) -> Result<Vec<usize>, String> {
+    let Judged(mut stream) = judge(file)?;
+    let (cores, frames) = (S3w2Sound::counting(), stream.frame_count());
+    let place = |_| {
+        let place = stream.cursor();
+        advance(&mut stream, &cores);
+        stream.take_card_writes();
+        place
+    };
+    Ok((0..frames).map(place).collect())
 }
 
 fn advance(stream: &mut StreamPlayer, cores: &Cores) {

@@ -1,30 +1,16 @@
 //! Masters with their repackings, stored for programs that have no generators.
 
-use super::{Outcome, repack};
+pub use crate::lent::{Vector, to_bytes};
+
+use super::repack;
 use crate::generators::masters::{Masters, Waves, of_pcm, of_waves};
 use crate::generators::{Choice, Family, Generator};
 use crate::model::{Operation, PCM, Stream};
-use crate::{sheet, stored};
+use crate::sheet;
 use std::collections::HashSet;
-
-/// The longest file and the longest room that are stored.
-pub const LONGEST: usize = 65_536;
 
 /// The longest of the drawn files. Chance seldom makes a longer one worth its place.
 const LONGEST_DRAWN: usize = 4096;
-
-/// A file, the room that is lent, and the outcome, on which library and original agree.
-#[derive(Clone, Debug, PartialEq, Eq)]
-pub struct Vector {
-    /// The file.
-    pub file: Vec<u8>,
-    /// Bytes of the lent buffer.
-    pub room: usize,
-    /// The refusal's number and place; 0 and 0 for a result.
-    pub refusal: [u32; 2],
-    /// The result; empty for a refusal.
-    pub result: Vec<u8>,
-}
 
 /// So many vectors of a seed, the chosen files first. Each repacked file comes with room of its size, with more, or, as
 /// refusal 24, with a byte less.
@@ -78,45 +64,9 @@ fn chosen() -> Vec<Vec<u8>> {
     files
 }
 
-/// A file with the room of its result, less so many bytes; a file that is refused with room for a hundred.
 fn vector(file: &[u8], less: isize) -> Result<Vector, String> {
-    let mut buffer = Vec::new();
     let outcome =
-        repack(file, &mut buffer).map_err(|text| format!("{text}: {} bytes", file.len()))?;
-    let mut vector = Vector {
-        file: file.to_vec(),
-        room: 100,
-        refusal: [0, 0],
-        result: Vec::new(),
-    };
-    match outcome {
-        Outcome::Written(size) => {
-            vector.room = size.saturating_add_signed(-less);
-            if less > 0 {
-                vector.refusal = [24, 0];
-            } else {
-                vector.result = sgub::repack_to_vec(file).expect("it is repacked above");
-            }
-        }
-        Outcome::Refused(refusal) => vector.refusal = [refusal.number, refusal.place as u32],
-    }
-    assert!(file.len() <= LONGEST && vector.room <= LONGEST);
-    Ok(vector)
-}
-
-/// The stored form: for each vector the file's length, the file, room, number, place, the result's length and the result, then
-/// [`stored::END`].
-pub fn to_bytes(vectors: &[Vector]) -> Vec<u8> {
-    let mut bytes = Vec::new();
-    for vector in vectors {
-        let [number, place] = vector.refusal;
-        let [length, room, size] =
-            [vector.file.len(), vector.room, vector.result.len()].map(|number| number as u32);
-        stored::put(&mut bytes, &[length]);
-        bytes.extend(&vector.file);
-        stored::put(&mut bytes, &[room, number, place, size]);
-        bytes.extend(&vector.result);
-    }
-    stored::put(&mut bytes, &[stored::END]);
-    bytes
+        repack(file, &mut Vec::new()).map_err(|text| format!("{text}: {} bytes", file.len()))?;
+    let result = || sgub::repack_to_vec(file).expect("it is repacked above");
+    Ok(Vector::new(file, outcome, less, result))
 }

@@ -3,6 +3,8 @@
 mod comparisons;
 mod examples;
 mod generators;
+mod indexes;
+mod jumps;
 mod oracle;
 mod plays;
 mod repacks;

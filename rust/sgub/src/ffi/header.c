@@ -9,6 +9,9 @@ struct sgub_started sgub_start(const unsigned char *, unsigned long);
 struct sgub_vsync sgub_advance_vsync(
     struct sgub_player *, const unsigned char *, unsigned long, struct sgub_write *, unsigned long);
 struct sgub_wave_source sgub_wave_source(struct sgub_player, unsigned long, unsigned long);
+struct sgub_indexed sgub_index(const unsigned char *, unsigned long, unsigned char *, unsigned long);
+struct sgub_jumped sgub_jump(
+    struct sgub_player *, const unsigned char *, unsigned long, const unsigned char *, unsigned long, unsigned int);
 struct sgub_repacked sgub_repack(const unsigned char *, unsigned long, unsigned char *, unsigned long);
 struct sgub_compared sgub_compare(
     const unsigned char *, unsigned long, const unsigned char *, unsigned long,
@@ -46,6 +49,19 @@ int main(void) {
     struct sgub_wave_source source = sgub_wave_source(started.player, 1, 3);
     if (!source.copied || source.pool != 777 || sgub_wave_source(started.player, 3, 0).copied)
         return 12;
+    uint8_t index[SGUB_LONGEST_INDEX] = {0xA5, [16] = 0xA5};
+    struct sgub_indexed indexed = sgub_index(file, sizeof file, index, 15);
+    if (indexed.number != 24 || indexed.place != 0 || indexed.size != 0 || index[0] != 0xA5)
+        return 13;
+    indexed = sgub_index(file, sizeof file, index, sizeof index);
+    if (indexed.number != 0 || indexed.size != 16 || index[3] != 20 || index[15] != 22 || index[16] != 0xA5)
+        return 14;
+    struct sgub_jumped jumped = sgub_jump(&started.player, file, sizeof file, index, 15, 1);
+    if (jumped.number != 26 || jumped.place != 0 || started.player.progress.initialized)
+        return 15;
+    jumped = sgub_jump(&started.player, file, sizeof file, index, 16, 1);
+    if (jumped.number != 0 || jumped.place != 0 || !started.player.progress.initialized)
+        return 16;
     file[4] = 5;
     verdict = sgub_check(file, sizeof file);
     if (verdict.number != 3 || verdict.place != 0 || verdict.version != 0)

@@ -1,6 +1,7 @@
 //! Holds the declarations of this module against `include/sgub.h`, by a C compiler.
 
 use super::comparison::Compared;
+use super::index::{Indexed, Jumped};
 use super::repack::Repacked;
 use super::{
     Card, CardRequirement, CardTable, Header, Player, Pool, Pools, Progress, Started, Verdict,
@@ -37,7 +38,7 @@ fn size_of_field<S, F>(_: fn(&S) -> &F) -> usize {
     size_of::<F>()
 }
 
-fn layouts() -> [Layout; 16] {
+fn layouts() -> [Layout; 18] {
     [
         layout!(
             "sgub_verdict",
@@ -162,6 +163,15 @@ fn layouts() -> [Layout; 16] {
                 complete,
             }
         ),
+        layout!(
+            "sgub_indexed",
+            Indexed {
+                number,
+                place,
+                size,
+            }
+        ),
+        layout!("sgub_jumped", Jumped { number, place }),
         layout!(
             "sgub_repacked",
             Repacked {

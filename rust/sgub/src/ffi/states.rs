@@ -1,5 +1,5 @@
-//! States that no start gives. A lent state may hold any numbers: a call with its file is 25 where the format sheet says so, and then
-//! changes nothing, and else it goes on.
+//! States that no start gives. A lent state may hold any numbers: a call with its file, and a jump, is 25 where the format sheet and
+//! document 02 say so, and then changes nothing, and else it goes on.
 
 use super::library::example;
 use super::{Player, Progress};
@@ -127,4 +127,115 @@ fn closing_writes_are_counted() {
             );
         }
     }
+}
+
+/// The number that a jump to frame 2 gives; a refused one has place 0 and leaves the state as it was, and another sets how far the
+/// player is and nothing else.
+fn jump_number(mut player: Player, file: &[u8]) -> u32 {
+    let before = player;
+    let index = crate::build_index(file).unwrap();
+    let jumped = super::index::jump(&mut player, file, &index, 2);
+    let mut expected = before;
+    if jumped.number == 0 {
+        expected.progress = Progress {
+            part: 0,
+            cursor: SIZE - 16,
+            operation_index: 0,
+            operation_count: 0,
+            write_index: 0,
+            frame_index: 1,
+            initialized: true,
+            finished: false,
+            wave_sources: before.progress.wave_sources,
+        };
+    }
+    assert_eq!((player, jumped.place), (expected, 0));
+    jumped.number
+}
+
+/// What is done to a state makes a jump 25, finished or not, or it does not.
+fn jumps_are(state: Player, file: &[u8], number: u32, changes: &[fn(&mut Player)]) {
+    for (index, change) in changes.iter().enumerate() {
+        for finished in [false, true] {
+            let mut player = state;
+            player.progress.finished = finished;
+            change(&mut player);
+            let found = jump_number(player, file);
+            assert_eq!(found, number, "case {index}, finished {finished}");
+        }
+    }
+}
+
+/// Every field that a start records has to be the lent file's: cards below the count, and no others.
+#[test]
+fn a_jump_compares_all_that_a_start_recorded() {
+    let file = example(FILE);
+    let others: &[fn(&mut Player)] = &[
+        |player| player.header.version = 3,
+        |player| player.header.repeat = true,
+        |player| player.header.frame_period += 1,
+        |player| player.header.card_count = 1,
+        |player| player.header.frame_count += 1,
+        |player| player.header.pool_count += 1,
+        |player| player.header.initial_count += 1,
+        |player| player.header.directory_offset -= 1,
+        |player| player.header.initial_start -= 1,
+        |player| player.header.frame_start -= 1,
+        |player| player.header.total_size -= 1,
+        |player| player.cards.count = 1,
+        |player| player.cards.count = 3,
+        |player| player.cards.count = 9,
+        |player| player.cards.cards[0].slot += 1,
+        |player| player.cards.cards[0].id_length -= 1,
+        |player| player.cards.cards[1].id_offset += 1,
+        |player| player.cards.cards[1].bulk_start += 1,
+        |player| player.cards.cards[1].bulk_length += 1,
+        |player| player.cards.cards[1].id[15] = 1,
+        |player| player.uses_si22 = false,
+    ];
+    jumps_are(at_the_fill(&file), &file, 25, others);
+    let same: &[fn(&mut Player)] = &[
+        |_| (),
+        |player| player.cards.cards[2].slot = 1,
+        |player| player.cards.cards[7].id[0] = 1,
+    ];
+    jumps_are(at_the_fill(&file), &file, 0, same);
+}
+
+/// Of a player's progress a jump tests what a vsync call tests before it reads an operation, and in the closing writes their count.
+#[test]
+fn a_jump_tests_places_and_counters() {
+    let file = example(FILE);
+    let others: &[fn(&mut Player)] = &[
+        |player| player.progress.cursor = SIZE + 1,
+        |player| player.progress.frame_index = 3,
+        |player| player.progress.operation_index = 5,
+        |player| (player.progress.part, player.progress.write_index) = (3, 34),
+        |player| (player.progress.part, player.progress.write_index) = (255, 34),
+    ];
+    jumps_are(at_the_fill(&file), &file, 25, others);
+    let same: &[fn(&mut Player)] = &[
+        |player| player.progress.cursor = SIZE,
+        |player| player.progress.frame_index = 2,
+        |player| player.progress.operation_index = 4,
+        |player| player.progress.write_index = 34,
+        |player| player.progress.write_index = u32::MAX,
+        |player| (player.progress.part, player.progress.write_index) = (3, 33),
+        |player| (player.progress.part, player.progress.write_index) = (4, 33),
+        |player| player.progress.initialized = false,
+        |player| player.progress.wave_sources[15].copied = true,
+    ];
+    jumps_are(at_the_fill(&file), &file, 0, same);
+}
+
+/// The player of a refused file has recorded the size 0, so that a file that is accepted is not its own.
+#[test]
+fn a_refused_start_takes_no_jump() {
+    let file = example(FILE);
+    let player = super::start(&example("refused-16.sgub")).player;
+    assert_eq!(jump_number(player, &file), 25);
+    let mut same = player;
+    let jumped = super::index::jump(&mut same, &example("refused-16.sgub"), &[], 0);
+    assert_eq!((jumped.number, jumped.place), (16, 20));
+    assert_eq!(same, player);
 }

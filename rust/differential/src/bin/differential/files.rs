@@ -35,8 +35,13 @@ pub fn write_large(bytes: usize, directory: &str) -> Answer {
 /// Writes the files of `examples/`.
 pub fn write_examples(directory: &str) -> Answer {
     fs::create_dir_all(directory)?;
-    for Example { name, file } in examples::all() {
-        fs::write(Path::new(directory).join(format!("{name}.sgub")), file)?;
+    for (ending, examples) in [
+        ("sgub", examples::all()),
+        ("index", examples::all_indexes()),
+    ] {
+        for Example { name, file } in examples {
+            fs::write(Path::new(directory).join(format!("{name}.{ending}")), file)?;
+        }
     }
     Ok(true)
 }

@@ -5,6 +5,8 @@ mod bench;
 mod comparisons;
 mod driver;
 mod files;
+mod indexes;
+mod jumps;
 mod oracle;
 mod plays;
 mod repacks;
@@ -27,11 +29,15 @@ const USAGE: &str = "usage: differential verdict FILE...
        differential play-vectors DIRECTORY COUNT
        differential repack-vectors DIRECTORY COUNT
        differential compare-vectors DIRECTORY COUNT
+       differential index-vectors DIRECTORY COUNT
+       differential jump-vectors DIRECTORY COUNT
        differential verdicts COUNT [SEED]
        differential plays COUNT [SEED]
        differential repacks COUNT [SEED]
        differential compares COUNT [SEED]
-       differential bench [play | repack | compare]
+       differential indexes COUNT [SEED]
+       differential jumps COUNT [SEED]
+       differential bench [play | repack | compare | jump]
        differential selftest [COUNT]
        differential speed [COUNT]";
 
@@ -74,13 +80,20 @@ fn run(arguments: &[&str], out: &mut impl Write) -> Answer {
         ["compare-vectors", directory, count] => {
             comparisons::write_vectors(directory, count.parse()?, out)
         }
+        ["index-vectors", directory, count] => {
+            indexes::write_vectors(directory, count.parse()?, out)
+        }
+        ["jump-vectors", directory, count] => jumps::write_vectors(directory, count.parse()?, out),
         ["verdicts", numbers @ ..] => verdicts::compare(amount(numbers)?, out),
         ["plays", numbers @ ..] => plays::compare(amount(numbers)?, out),
         ["repacks", numbers @ ..] => repacks::compare(amount(numbers)?, out),
         ["compares", numbers @ ..] => comparisons::compare(amount(numbers)?, out),
+        ["indexes", numbers @ ..] => indexes::compare(amount(numbers)?, out),
+        ["jumps", numbers @ ..] => jumps::compare(amount(numbers)?, out),
         ["bench"] => bench::verdicts::bench(out),
         ["bench", "play"] => bench::plays::bench(out),
         ["bench", "repack"] => bench::repacks::bench(out),
+        ["bench", "jump"] => bench::jumps::bench(out),
         ["bench", "compare"] => bench::comparisons::bench(out),
         ["selftest"] => selftest::selftest(1000, out),
         ["selftest", count] => selftest::selftest(count.parse()?, out),

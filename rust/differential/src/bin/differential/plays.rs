@@ -6,7 +6,7 @@ use differential::generators::{Choice, Family, Generator};
 use differential::model::weight;
 use differential::oracle;
 use differential::plays::{Counts, Plays, vectors};
-use std::io::{self, Write};
+use std::io::Write;
 
 /// Files that a thread plays from one seed before it takes the next.
 const SHARE: u64 = 5_000;
@@ -20,7 +20,7 @@ pub fn compare(amount: Amount, out: &mut impl Write) -> Answer {
         return Ok(false);
     };
     let counts = &agreement.counts;
-    report(counts, out)?;
+    driver::versions("played once", counts.files, out)?;
     let Amount { count, seed } = amount;
     let Counts {
         vsyncs,
@@ -60,20 +60,6 @@ fn run(mut part: Part<'_>) -> Counts {
         counts += plays.counts();
     }
     counts
-}
-
-/// A line for each version.
-fn report(counts: &Counts, out: &mut impl Write) -> io::Result<()> {
-    writeln!(
-        out,
-        "{:8}{:>14}{:>14}",
-        "version", "played once", "repeating"
-    )?;
-    let [once, repeating] = counts.files;
-    for (version, (once, repeating)) in (1..).zip(once.iter().zip(repeating)) {
-        writeln!(out, "{version:<8}{once:>14}{repeating:>14}")?;
-    }
-    Ok(())
 }
 
 /// Writes `plays.bin`. False if no call of its scripts is refused.

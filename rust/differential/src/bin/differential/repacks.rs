@@ -84,11 +84,6 @@ fn report(counts: &Counts, out: &mut impl Write) -> io::Result<()> {
 pub fn write_vectors(directory: &str, count: usize, out: &mut impl Write) -> Answer {
     let vectors = vectors::choose(count, 1)?;
     let bytes = vectors::to_bytes(&vectors);
-    let mut numbers: Vec<u32> = vectors.iter().map(|vector| vector.refusal[0]).collect();
-    numbers.sort_unstable();
-    numbers.dedup();
-    let (count, size) = (vectors.len(), bytes.len());
-    let counts = format_args!("{count} vectors, {size} bytes, numbers {numbers:?}");
-    driver::write_vectors(directory, "repacks", &bytes, counts, out)?;
+    driver::write_answers(directory, "repacks", &vectors, &bytes, out)?;
     Ok(true)
 }

@@ -5,6 +5,7 @@ mod work;
 
 pub use work::Part;
 
+use differential::lent::Vector;
 use std::fmt::{Arguments, Display};
 use std::io::{self, Write};
 use std::num::NonZero;
@@ -88,6 +89,32 @@ impl<C> Agreement<C> {
 /// What stands behind a count of something that has to occur.
 pub fn note(count: u64) -> &'static str {
     if count == 0 { "  NOT SEEN" } else { "" }
+}
+
+/// A line for each version: how many of its files do not repeat, and how many do.
+pub fn versions(once: &str, counts: [[u64; 4]; 2], out: &mut impl Write) -> io::Result<()> {
+    writeln!(out, "{:8}{once:>14}{:>14}", "version", "repeating")?;
+    let [once, repeating] = counts;
+    for (version, (once, repeating)) in (1..).zip(once.iter().zip(repeating)) {
+        writeln!(out, "{version:<8}{once:>14}{repeating:>14}")?;
+    }
+    Ok(())
+}
+
+/// Writes the stored answers of calls that write into lent memory, and prints which numbers they have.
+pub fn write_answers(
+    directory: &str,
+    name: &str,
+    vectors: &[Vector],
+    bytes: &[u8],
+    out: &mut impl Write,
+) -> io::Result<()> {
+    let mut numbers: Vec<u32> = vectors.iter().map(|vector| vector.refusal[0]).collect();
+    numbers.sort_unstable();
+    numbers.dedup();
+    let (count, size) = (vectors.len(), bytes.len());
+    let counts = format_args!("{count} vectors, {size} bytes, numbers {numbers:?}");
+    write_vectors(directory, name, bytes, counts, out)
 }
 
 /// Writes stored vectors into the file NAME.bin of a directory, and prints the counts.

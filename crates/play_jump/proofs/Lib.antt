@@ -1,0 +1,3 @@
+-- What a jump is lent; the answer of its plan.
+pub mod Lent
+pub mod Calls
