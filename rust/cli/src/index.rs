@@ -63,7 +63,14 @@ fn has_trailer(bytes: &[u8]) -> bool {
     let Some((entries, trailer)) = bytes.split_last_chunk::<TRAILER>() else {
         return false;
     };
-    let number = |at| u32::from_be_bytes([trailer[at], trailer[at + 1], trailer[at + 2], trailer[at + 3]]);
+    let number = |at| {
+        u32::from_be_bytes([
+            trailer[at],
+            trailer[at + 1],
+            trailer[at + 2],
+            trailer[at + 3],
+        ])
+    };
     let [distance, count] = [number(0), number(4)].map(u64::from);
     !entries.is_empty() && distance == entries.len() as u64 && distance == 4 * count
 }

@@ -69,7 +69,10 @@ fn an_index_that_is_there_is_replaced() {
         run(&folder, &["master"], 0, "indexed 16\n", "");
         holds(&folder, &[("master", P3), ("master.index", INDEX)]);
     }
-    let mut file = File::options().append(true).open(folder.join("master.index")).unwrap();
+    let mut file = File::options()
+        .append(true)
+        .open(folder.join("master.index"))
+        .unwrap();
     file.write_all(b"\0").unwrap();
     let message = "sgub: master.index: could not be written: it is there already, \
                    and only --force replaces it\n";

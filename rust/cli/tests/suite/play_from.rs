@@ -177,7 +177,7 @@ fn a_reader_that_goes_away_is_told_nothing() {
 #[test]
 fn the_refusals_are_explained() {
     for (number, words) in [
-        ("26", "\n  sgub index --force FILE [INDEX]\n"),
+        ("26", "\n  sgub index FILE [INDEX]\n"),
         ("27", "\n  accepted VERSION FRAMES OPENING\n"),
     ] {
         let output = sgub(["explain", number]).output().unwrap();
