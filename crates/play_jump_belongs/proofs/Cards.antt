@@ -14,14 +14,20 @@ use Rattle.base_format.specs.Jump.{sameCard, sameCards}
 use Rattle.base_format.proofs.Cards.{pastCard, held-cards}
 
 -- from a card on: that card and those behind it
-pub cards-step : (cards others : List CardRequirement) (n i : ℕ) → i < n → n ≤ length cards → n ≤ length others
-    → sameCards (drop i (take n cards)) (drop i (take n others))
-    ≡ (sameCard (getD cards i pastCard) (getD others i pastCard) && sameCards (drop (i + 1) (take n cards)) (drop (i + 1) (take n others)))
+pub cards-step : (a b : CardTable) (n i : ℕ) → length (a .cards) ≡ 8 → length (b .cards) ≡ 8 → i < n → n ≤ 8
+    → sameCards (drop i (take n (a .cards))) (drop i (take n (b .cards)))
+    ≡ (sameCard (getD (a .cards) i pastCard) (getD (b .cards) i pastCard) && sameCards (drop (i + 1) (take n (a .cards))) (drop (i + 1) (take n (b .cards))))
 unfolding sameCards
-cards-step cards others n i h within within′ =
-    let inside : i < length (take n cards) = simp length-take (omega arith) in
-    let inside′ : i < length (take n others) = simp length-take (omega arith) in
-    rw (drop-cons (take n cards) i pastCard inside, drop-cons (take n others) i pastCard inside′, getD-take n cards i pastCard h, getD-take n others i pastCard h, add-one i)
+cards-step a b n i size size′ h within =
+    let inside : i < length (take n (a .cards)) = simp length-take (omega arith) in
+    let inside′ : i < length (take n (b .cards)) = simp length-take (omega arith) in
+    rw (
+      drop-cons (take n (a .cards)) i pastCard inside,
+      drop-cons (take n (b .cards)) i pastCard inside′,
+      getD-take n (a .cards) i pastCard h,
+      getD-take n (b .cards) i pastCard h,
+      add-one i,
+    )
 
 -- behind the last card there is none
 pub cards-end : (cards others : List CardRequirement) (n : ℕ) → sameCards (drop n (take n cards)) (drop n (take n others)) ≡ true

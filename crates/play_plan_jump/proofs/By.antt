@@ -28,7 +28,8 @@ use Rattle.play_plan_jump.specs.Told.{foundBy, jumpedBy}
 -- an accepted file
 module _ (state : StreamPlayer) (file index : List ℕ) (frame : ℕ) (s : Stream) (e : read file ≡ ok s) (bytes : AllBytes index) where
   -- by its own index the frame is found where it stands
-  found : index ≡ indexOf s → noFrame (length (s .frames)) frame ≡ false → foundBy state (headerOf file .version) file index frame ≡ moved state (beforeFrame s (frame - 1) (state .progress))
+  found : index ≡ indexOf s → noFrame (length (s .frames)) frame ≡ false
+      → foundBy state (headerOf file .version) file index frame ≡ moved state (beforeFrame s (frame - 1) (state .progress))
   found own there =
       ap (λ (at : ℕ). moved state (progressAt (betweenAt at (frame - 1)) true false (state .progress .«wave_sources»)))
       (ap (λ (l : List ℕ). placeBy (headerOf file .version) file l frame) own ∙ place-by file s e frame there)
@@ -36,6 +37,10 @@ module _ (state : StreamPlayer) (file index : List ℕ) (frame : ℕ) (s : Strea
   -- what the tests of the index and of the frame leave, by what is said of both
   abbrev behind : (other none : Bool) → StreamPlayer → Checked StreamPlayer
   behind other none next = refuse 26 0 other >> (refuse 27 0 none >> ok next)
+
+  -- both tests and the frame's place by a header
+  abbrev byHeader : Header → Checked StreamPlayer
+  byHeader h = behind (otherIndex file h index) (noFrame (h .«frame_count») frame) (foundBy state (h .version) file index frame)
 
   abbrev next : StreamPlayer
   next = moved state (beforeFrame s (frame - 1) (state .progress))
@@ -54,12 +59,11 @@ module _ (state : StreamPlayer) (file index : List ℕ) (frame : ℕ) (s : Strea
   unfolding jumped
   jumped-is = rw e
 
-  pub jumped-by : jumpedBy state (started file) file index frame ≡ jumped state file index frame
+  jumped-by : jumpedBy state (started file) file index frame ≡ jumped state file index frame
   unfolding jumpedBy
   jumped-by =
-      ap (λ (h : Header). refuse 25 0 (foreignJump (length file) state (started file)) >> behind (otherIndex file h index) (noFrame (h .«frame_count») frame) (foundBy state (h .version) file index frame)) header-started
-      ∙ ap (λ (first : Checked (Unit {0})). first >> behind (otherIndex file (headerOf file) index) (noFrame (headerOf file .«frame_count») frame) (foundBy state (headerOf file .version) file index frame))
-      (jump-foreign-is state file s e)
+      ap (λ (h : Header). refuse 25 0 (foreignJump (length file) state (started file)) >> byHeader h) header-started
+      ∙ ap (λ (first : Checked (Unit {0})). first >> byHeader (headerOf file)) (jump-foreign-is state file s e)
       ∙ ap₂ (λ (other : Bool) (frames : ℕ). jumpBelongs state file s >> behind other (noFrame frames frame) (foundBy state (headerOf file .version) file index frame))
       (other-index file s e index bytes) (sym (frame-count file s (accepted file s e .0)))
       ∙ ap (λ (x : Checked StreamPlayer). jumpBelongs state file s >> x) (rest (sameBytes index (indexOf s)) refl (noFrame (length (s .frames)) frame) refl)
@@ -67,14 +71,16 @@ module _ (state : StreamPlayer) (file index : List ℕ) (frame : ℕ) (s : Strea
 
 -- THE VERDICT OF A START
 
-pub planned-accepted : (state : StreamPlayer) (file index : List ℕ) (frame : ℕ) → AllBytes index → ok tt ≡ verdictIn (read file) → jumpedBy state (started file) file index frame ≡ jumped state file index frame
+pub planned-accepted : (state : StreamPlayer) (file index : List ℕ) (frame : ℕ) → AllBytes index → ok tt ≡ verdictIn (read file)
+    → jumpedBy state (started file) file index frame ≡ jumped state file index frame
 planned-accepted state file index frame bytes given = go (read file) refl given
   where
     go : (answer : Checked Stream) → read file ≡ answer → ok tt ≡ verdictIn answer → jumpedBy state (started file) file index frame ≡ jumped state file index frame
     go (ok s) e given = jumped-by state file index frame s e bytes
     go (refused number place) e given = absurd (refused-not-ok (sym given))
 
-pub planned-refused : (state : StreamPlayer) (file index : List ℕ) (frame number place : ℕ) → refused number place ≡ verdictIn (read file) → refused number place ≡ jumped state file index frame
+pub planned-refused : (state : StreamPlayer) (file index : List ℕ) (frame number place : ℕ) → refused number place ≡ verdictIn (read file)
+    → refused number place ≡ jumped state file index frame
 unfolding jumped
 planned-refused state file index frame number place given = go (read file) refl given
   where

@@ -101,7 +101,8 @@ module _ {M : Type 1} (𝓤 : URA M) (H : Heap 𝓤) (A : Atoms 𝓤) (W : Given
       suffices ! _ (ends-at 𝓤 H A f.ended stayed (f.clauses 𝓤 H A at-mem run) W ((lifetimes x, shares x, tt, (args x), (vals x)), tt)
       (ans r) (toldOf r) (r .next, (tt, (tt, (tt, tt)))) (tt, (tt, (tt, (tt, tt))))) $
       says ! (ap toldOf e ∙ told-is (x .h) (jumped (x .h) (x .bs) (x .ns) (x .n)), ap (λ (z : JumpPlan). z .next) e ∙ state-is (x .h) (jumped (x .h) (x .bs) (x .ns) (x .n))) $
-      nothing ! $ move ! (5 ∷ 0 ∷ []) $ join ! $ move ! (4 ∷ 0 ∷ []) $ join ! $ move ! (3 ∷ 0 ∷ []) $ join ! $ frame ! $ feqI ! (List Val) (vptr (x .b) (x .o) ∷ []) (vptr (x .b) (x .o) ∷ []) refl $ fjoin3 ! $
+      nothing ! $ move ! (5 ∷ 0 ∷ []) $ join ! $ move ! (4 ∷ 0 ∷ []) $ join ! $ move ! (3 ∷ 0 ∷ []) $ join ! $ frame ! $
+      feqI ! (List Val) (vptr (x .b) (x .o) ∷ []) (vptr (x .b) (x .o) ∷ []) refl $ fjoin3 ! $
       nothing ! $ owned ! u32 (Is u32) (uint-makes 𝓤 H A W w32) (x .n) _ (refl, n-fits) $ fjoin ! $ move ! (3 ∷ 0 ∷ []) $ fjoin ! $ move ! (2 ∷ 0 ∷ []) $ fjoin ! $ move ! (1 ∷ 0 ∷ []) $ fjoin ! $
       owned ! Y.the-row (Is Y.the-row) ((LL.makes Y.the-type Y′.the-plain) 𝓤 H A) (toldOf r) _ (ans-is r is) $ move ! (1 ∷ 0 ∷ []) $ done !
 
@@ -166,7 +167,8 @@ module _ {M : Type 1} (𝓤 : URA M) (H : Heap 𝓤) (A : Atoms 𝓤) (W : Given
       -- the state is read, and the covered core is called
       plans : Is P.the-row (x .h) (LL.vals P.the-type P′.the-laws (x .h)) → Sq W Entered (runs C Λ En code.Mir.t-1 (atRet En Post))
       plans was =
-          assigns ! (of-opd ! (load ! (from ! (hop ! (look ! 18 refl) (stop !))) (look-raw ! 0 refl))) (from ! (stop !)) (init ! 10 refl (LL.lawful P.the-type P′.the-laws 𝓤 H A W .typed (x .h) _ was .0)) $
+          assigns ! (of-opd ! (load ! (from ! (hop ! (look ! 18 refl) (stop !))) (look-raw ! 0 refl)))
+          (from ! (stop !)) (init ! 10 refl (LL.lawful P.the-type P′.the-laws 𝓤 H A W .typed (x .h) _ was .0)) $
           move ! (6 ∷ []) $ use1 W (‵ (File x) ⊛ ‵ (File x)) (shr-slice-copy 𝓤 H A W (named 1) (x .κ₂) u8 .twice (x₂ x) ((s₂ x) ∷ [])) $ split ! $
           move ! (8 ∷ []) $ use1 W (‵ (Index x) ⊛ ‵ (Index x)) (shr-slice-copy 𝓤 H A W (named 2) (x .κ₃) u8 .twice (x₃ x) ((s₃ x) ∷ [])) $ split ! $
           move ! (2 ∷ 0 ∷ []) $ join ! $ move ! (7 ∷ 8 ∷ 0 ∷ []) $
@@ -203,7 +205,8 @@ module _ {M : Type 1} (𝓤 : URA M) (H : Heap 𝓤) (A : Atoms 𝓤) (W : Given
         -- [index's token; file's token; the state's token; index; file; the state; the locals]
         move ! (5 ∷ []) $ fsplit3 ! $ drop ! $ move ! (0 ∷ 1 ∷ 4 ∷ []) $
         -- [obs; the borrow; the token; index's token; file's token; index; file; the locals]
-        opens ! tt P.the-row {h = (x .h)} (x .b) (x .o) (λ vs. spelt ! P.the-row (Is P.the-row) (shows 𝓤 H A P.the-row) (LL.vals P.the-type P′.the-laws) (LL.tells P.the-type P′.the-laws) fullShare (x .h) vs (x .b) (x .o) $
+        opens ! tt P.the-row {h = (x .h)} (x .b) (x .o) (λ vs. spelt ! P.the-row (Is P.the-row) (shows 𝓤 H A P.the-row) (LL.vals P.the-type P′.the-laws) (LL.tells P.the-type P′.the-laws)
+        fullShare (x .h) vs (x .b) (x .o) $
         move ! (1 ∷ []) $ peeks ! P.the-row (Is P.the-row) (shows 𝓤 H A P.the-row) (x .h) (LL.vals P.the-type P′.the-laws (x .h)) (λ was. drop ! $ move ! (0 ∷ 1 ∷ 2 ∷ 3 ∷ 5 ∷ 4 ∷ 7 ∷ 6 ∷ []) $
         plans l₀ l₁ l₂ l₃ l₄ l₅ l₆ was)))))))))
 

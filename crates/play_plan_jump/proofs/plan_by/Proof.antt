@@ -61,4 +61,5 @@ returns-5 c =
 pub plan-by-spec : {M : Type 1} → statement M
 plan-by-spec =
     tie.close
-    (tie.spec (search needs) (search needs) returns (search needs) (search needs) returns-2 (search needs) returns-3 (search needs) returns-4 (search needs) (search needs) (search needs) (search needs) returns-5)
+    (tie.spec (search needs) (search needs) returns (search needs) (search needs) returns-2 (search needs) returns-3 (search needs) returns-4
+    (search needs) (search needs) (search needs) (search needs) returns-5)

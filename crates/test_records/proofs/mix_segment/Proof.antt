@@ -3,7 +3,7 @@ use borrow.Author.Needs.{needs}
 use borrow.Author.Tests.{lt-ltb, le-ltb}
 use native.Mathlib.Omega.{arith}
 use Prim.Native.Nat.{_-_, _≤_}
-use mathlib.Core.Path.{_≡_, sym, _∙_}
+use mathlib.Core.Path.{_≡_, sym}
 use Rattle.test_records.specs.Mixed.{recordsMixed, segmentMixed}
 use Rattle.test_records.proofs.Steps.{records-step, records-end}
 use Rattle.test_records.proofs.mix_segment.Statement.{statement}

@@ -41,8 +41,9 @@ returns-2 c =
     let total = l .before .before .before in
     let s = total .before in
     let t = s .args in
+    let step = cards-step (t .t1) (t .t2) (total .card-total .result) (l .loop .i) (eight (t .t1) _ (s .good .0)) (eight (t .t2) _ (s .good .1 .0)) (omega arith) (l .loop .inv .1) in
     let none = sym (c .before .same-card .ensures) ∙ not-true _ (c .if2 .taken) in
-    rw (l .loop .inv .2, cards-step (t .t1 .cards) (t .t2 .cards) (total .card-total .result) (l .loop .i) (omega arith) (omega (arith, eight (t .t1) _ (s .good .0))) (omega (arith, eight (t .t2) _ (s .good .1 .0))), none)
+    rw (l .loop .inv .2, step, none)
 
 loop-again : tie.Need-loop-again Inv-loop μ-loop
 loop-again c =
@@ -50,10 +51,11 @@ loop-again c =
     let total = l .before .before .before in
     let s = total .before in
     let t = s .args in
+    let step = cards-step (t .t1) (t .t2) (total .card-total .result) (l .loop .i) (eight (t .t1) _ (s .good .0)) (eight (t .t2) _ (s .good .1 .0)) (omega arith) (l .loop .inv .1) in
     let one = sym (c .before .same-card .ensures) ∙ not-false _ (c .if2 .left) in (
       omega arith,
       l .loop .inv .1,
-      rw (l .loop .inv .2, cards-step (t .t1 .cards) (t .t2 .cards) (total .card-total .result) (l .loop .i) (omega arith) (omega (arith, eight (t .t1) _ (s .good .0))) (omega (arith, eight (t .t2) _ (s .good .1 .0))), one),
+      rw (l .loop .inv .2, step, one),
     )
 
 returns-3 : tie.Need-returns-3 Inv-loop μ-loop
@@ -67,4 +69,5 @@ returns-3 c =
 pub same-cards-spec : {M : Type 1} → statement M
 same-cards-spec =
     tie.close
-    (tie.spec Inv-loop μ-loop (search needs) (search needs) returns loop-holds (search needs) (search needs) (search needs) (search needs) (search needs) returns-2 (search needs) (search needs) loop-again returns-3)
+    (tie.spec Inv-loop μ-loop (search needs) (search needs) returns loop-holds (search needs) (search needs) (search needs) (search needs) (search needs) returns-2
+    (search needs) (search needs) loop-again returns-3)
