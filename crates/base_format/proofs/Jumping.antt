@@ -17,7 +17,7 @@ use Rattle.base_format.specs.Jump.{jumped, stateAfter}
 use Rattle.base_format.specs.Listener.{completed}
 use Rattle.base_format.specs.Player.{placed, frameStart, closingAt}
 use Rattle.base_format.specs.State.{noWave, betweenAt, progressAt, moved, started}
-use Rattle.base_format.specs.Steps.{Answer, stepAnswers, callAnswers, completedAllBegun, jumpsMade, stepRecords, completedTurns, dueTurn, writesInAll}
+use Rattle.base_format.specs.Steps.{Answer, stepAnswers, callAnswers, completedAllBegun, jumpsMade, stepRecords, completedVsyncs, dueVsync, writesInAll}
 use Rattle.base_format.specs.Stream.{Stream}
 use Rattle.base_format.specs.Writes.{first, later}
 use Rattle.base_format.specs.Written.{written}
@@ -138,7 +138,7 @@ told moves = stepAnswers (started (written two)) (stepsOf two moves)
 between : List Move
 between = play 2 ∷ play 40 ∷ to 3 ∷ to 1 ∷ play 1 ∷ play 1 ∷ []
 
-between-told : (completedAllBegun (told between) ≡ true) × (jumpsMade (told between) ≡ (1, 1) ∷ []) × (completedTurns (told between) ≡ first ∷ later 0 ∷ []) × (dueTurn (told between) ≡ later 1)
+between-told : (completedAllBegun (told between) ≡ true) × (jumpsMade (told between) ≡ (1, 1) ∷ []) × (completedVsyncs (told between) ≡ first ∷ later 0 ∷ []) × (dueVsync (told between) ≡ later 1)
 unfolding told between stepsOf two reading writing listing playing jumping stepping
 between-told = (refl, refl, refl, refl)
 

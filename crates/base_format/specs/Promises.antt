@@ -21,7 +21,7 @@ use Rattle.base_format.specs.Repack.{repack, repacked}
 use Rattle.base_format.specs.Size.{pcmSize, fileLimit}
 use Rattle.base_format.specs.State.{moved, started, waveSource}
 use Rattle.base_format.specs.Steps.{Step, Answer, stepAnswers, reachedBy, AllAdmissibleSteps, callAnswers, completedAllBegun, jumpsMade, stepRecords}
-use Rattle.base_format.specs.Steps.{turnOf, completedTurns, dueTurn, turnsFrom, writesInAll}
+use Rattle.base_format.specs.Steps.{vsyncOfFrame, completedVsyncs, dueVsync, vsyncsInOrder, writesInAll}
 use Rattle.base_format.specs.Stream.{Stream, read}
 use Rattle.base_format.specs.WaveSources.{waveSourceAt, waveSourceBehind}
 use Rattle.base_format.specs.Writes.{openingWrites, frameWrites, writesIn, vsync}
@@ -168,21 +168,21 @@ abbrev pub BehindJump : Type 0
 BehindJump =
     (file : List ℕ) (s : Stream) → read file ≡ ok s → (steps : List Step) → AllAdmissibleSteps file (started file) steps
     → (index : List ℕ) (frame : ℕ) (next : StreamPlayer) → jumped (reachedBy (started file) steps) file index frame ≡ ok next
-    → (writesIn s (turnOf frame) ≡ frameWrites s (frame - 1))
-    × ((calls : List Call) → AllAdmissible file next calls → vsyncRecords (answers next calls) ≡ writesInAll s (turnsFrom (turnOf frame) (completed (answers next calls))))
+    → (writesIn s (vsyncOfFrame frame) ≡ frameWrites s (frame - 1))
+    × ((calls : List Call) → AllAdmissible file next calls → vsyncRecords (answers next calls) ≡ writesInAll s (vsyncsInOrder (vsyncOfFrame frame) (completed (answers next calls))))
 
 -- each vsync's records, over its calls, are its writes, "by the rules above" and by the last jump
 abbrev pub EachVsyncOfSteps : Type 0
 EachVsyncOfSteps =
     (file : List ℕ) (s : Stream) → read file ≡ ok s → (steps : List Step) → AllAdmissibleSteps file (started file) steps
-    → stepRecords (stepAnswers (started file) steps) ≡ writesInAll s (completedTurns (stepAnswers (started file) steps))
+    → stepRecords (stepAnswers (started file) steps) ≡ writesInAll s (completedVsyncs (stepAnswers (started file) steps))
 
 -- "W/n calls rounded up, at least one", also behind jumps
 abbrev pub CallsOfVsyncOfSteps : Type 0
 CallsOfVsyncOfSteps =
     (file : List ℕ) (s : Stream) → read file ≡ ok s → (steps : List Step) → AllAdmissibleSteps file (started file) steps
     → completedAllBegun (stepAnswers (started file) steps) ≡ true → (room : ℕ) → 0 < room
-    → let needed = callsFor (length (writesIn s (dueTurn (stepAnswers (started file) steps)))) room in
+    → let needed = callsFor (length (writesIn s (dueVsync (stepAnswers (started file) steps)))) room in
     (completed (answers (reachedBy (started file) steps) (sameCalls file room needed)) ≡ 1)
     × ((count : ℕ) → count < needed → completed (answers (reachedBy (started file) steps) (sameCalls file room count)) ≡ 0)
 
@@ -201,8 +201,8 @@ pub record TogetherWithJumps (master other : List ℕ) (told told′ : List Answ
   pub accepted : read master ≡ ok s
   pub accepted′ : read other ≡ ok s′
   pub held : heardAll newListener (callAnswers told) ≡ heardAll newListener (callAnswers told′)
-  pub writes : stepRecords told ≡ writesInAll s (completedTurns told)
-  pub writes′ : stepRecords told′ ≡ writesInAll s′ (completedTurns told′)
+  pub writes : stepRecords told ≡ writesInAll s (completedVsyncs told)
+  pub writes′ : stepRecords told′ ≡ writesInAll s′ (completedVsyncs told′)
 
 -- one claim about both lists of steps: "where both players completed every vsync that they began" and "jump alike: each with its own file, to the
 -- same frames", "after equally many completed vsyncs"; and both completed equally many

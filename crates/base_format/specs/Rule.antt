@@ -6,7 +6,8 @@ use Rattle.base_format.specs.declared.rule.Verdict.{Verdict}
 use Rattle.base_format.specs.declared.rule.Verdict.the-variants.{Allowed, Refused}
 use Rattle.base_format.specs.declared.rule.Rule.{Rule}
 use Rattle.base_format.specs.declared.rule.Rule.the-variants.{HeaderShort, Letters, Version, Voices, Flags, Period, CardEntry, Counts, Directory, PoolEntry, PoolPayload, Sections, Opcode, CutOff}
-use Rattle.base_format.specs.declared.rule.Rule.the-variants.{NoTarget, WriteAddress, BulkRange, NoPool, CopyRange, Ending, OtherVersion, PcmOrder, ResultSize, LentSize, OtherFile, OtherIndex, NoFrame}
+use Rattle.base_format.specs.declared.rule.Rule.the-variants.{NoTarget, WriteAddress, BulkRange, NoPool, CopyRange, Ending}
+use Rattle.base_format.specs.declared.rule.Rule.the-variants.{OtherVersion, PcmOrder, ResultSize, LentSize, OtherFile, OtherIndex, NoFrame}
 
 abbrev pub numberOf : Rule → ℕ
 numberOf HeaderShort = 1

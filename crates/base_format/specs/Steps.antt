@@ -11,7 +11,7 @@ use Rattle.base_format.specs.Jump.{jumped, stateAfter}
 use Rattle.base_format.specs.Listener.{Call, after, Admissible}
 use Rattle.base_format.specs.Player.{Played, call}
 use Rattle.base_format.specs.Stream.{Stream}
-use Rattle.base_format.specs.Writes.{Turn, first, later, nextTurn, writesIn}
+use Rattle.base_format.specs.Writes.{WhichVsync, first, later, vsyncBehind, writesIn}
 
 -- STEPS
 
@@ -103,37 +103,37 @@ stepRecords = stepRecordsFrom []
 -- THE SHEET'S VSYNCS UNDER JUMPS
 
 -- the vsync that "gives that frame's writes and later ones as usual"; "the opening is not played"
-abbrev pub turnOf : (frame : ℕ) → Turn
-turnOf frame = later (frame - 1)
+abbrev pub vsyncOfFrame : (frame : ℕ) → WhichVsync
+vsyncOfFrame frame = later (frame - 1)
 
 -- so many vsyncs one after the other, from one on
-unfoldable pub turnsFrom : Turn → (count : ℕ) → List Turn
-turnsFrom turn zero = []
-turnsFrom turn (suc count) = turn ∷ turnsFrom (nextTurn turn) count
+unfoldable pub vsyncsInOrder : WhichVsync → (count : ℕ) → List WhichVsync
+vsyncsInOrder which zero = []
+vsyncsInOrder which (suc count) = which ∷ vsyncsInOrder (vsyncBehind which) count
 
 -- which vsync each completed one is, where one is given to begin with
-unfoldable pub completedFrom : Turn → List Answer → List Turn
-completedFrom turn [] = []
-completedFrom turn (ofCall (refused number place) ∷ more) = completedFrom turn more
-completedFrom turn (ofCall (ok answer) ∷ more) = cond (answer .complete) (turn ∷ completedFrom (nextTurn turn) more) (completedFrom turn more)
-completedFrom turn (ofJump frame (refused number place) ∷ more) = completedFrom turn more
-completedFrom turn (ofJump frame (ok next) ∷ more) = completedFrom (turnOf frame) more
+unfoldable pub completedFrom : WhichVsync → List Answer → List WhichVsync
+completedFrom which [] = []
+completedFrom which (ofCall (refused number place) ∷ more) = completedFrom which more
+completedFrom which (ofCall (ok answer) ∷ more) = cond (answer .complete) (which ∷ completedFrom (vsyncBehind which) more) (completedFrom which more)
+completedFrom which (ofJump frame (refused number place) ∷ more) = completedFrom which more
+completedFrom which (ofJump frame (ok next) ∷ more) = completedFrom (vsyncOfFrame frame) more
 
 -- from a start
-abbrev pub completedTurns : List Answer → List Turn
-completedTurns = completedFrom first
+abbrev pub completedVsyncs : List Answer → List WhichVsync
+completedVsyncs = completedFrom first
 
 -- and which one comes behind them
-unfoldable pub dueFrom : Turn → List Answer → Turn
-dueFrom turn [] = turn
-dueFrom turn (ofCall (refused number place) ∷ more) = dueFrom turn more
-dueFrom turn (ofCall (ok answer) ∷ more) = dueFrom (cond (answer .complete) (nextTurn turn) turn) more
-dueFrom turn (ofJump frame (refused number place) ∷ more) = dueFrom turn more
-dueFrom turn (ofJump frame (ok next) ∷ more) = dueFrom (turnOf frame) more
+unfoldable pub dueFrom : WhichVsync → List Answer → WhichVsync
+dueFrom which [] = which
+dueFrom which (ofCall (refused number place) ∷ more) = dueFrom which more
+dueFrom which (ofCall (ok answer) ∷ more) = dueFrom (cond (answer .complete) (vsyncBehind which) which) more
+dueFrom which (ofJump frame (refused number place) ∷ more) = dueFrom which more
+dueFrom which (ofJump frame (ok next) ∷ more) = dueFrom (vsyncOfFrame frame) more
 
-abbrev pub dueTurn : List Answer → Turn
-dueTurn = dueFrom first
+abbrev pub dueVsync : List Answer → WhichVsync
+dueVsync = dueFrom first
 
 -- the writes of some vsyncs, "by the rules above"
-abbrev pub writesInAll : Stream → List Turn → List (List WriteRecord)
+abbrev pub writesInAll : Stream → List WhichVsync → List (List WriteRecord)
 writesInAll s = map (writesIn s)

@@ -10,9 +10,9 @@ use Rattle.base_format.specs.declared.operation.Operation.{Operation}
 use Rattle.base_format.specs.declared.operation.Operation.the-variants.{Write, Fill, Copy}
 use Rattle.base_format.specs.Checked.{ok, refused}
 use Rattle.base_format.specs.Pool.{Payload, noPool}
-use Rattle.base_format.specs.Steps.{Answer, ofCall, ofJump, turnOf}
+use Rattle.base_format.specs.Steps.{Answer, ofCall, ofJump, vsyncOfFrame}
 use Rattle.base_format.specs.Stream.{Stream}
-use Rattle.base_format.specs.Writes.{Turn, first, nextTurn, writesOf, operationsIn, vsyncOperations}
+use Rattle.base_format.specs.Writes.{WhichVsync, first, vsyncBehind, writesOf, operationsIn, vsyncOperations}
 
 -- the pool that a channel of a core has behind an operation: a kind 1 COPY "to that core and address div 256" sets it, and all else leaves it
 unfoldable pub copiedBy : List Payload → (core channel : ℕ) → Operation → Option ℕ → Option ℕ
@@ -45,13 +45,13 @@ waveSourceAt s vsyncs writes core channel =
 
 -- the operations whose first write is made by some steps, where a vsync is under way with so many writes made. A jump within a vsync leaves
 -- those that are begun: "wave sources stay"
-unfoldable pub begunBy : Stream → Turn → (writes : ℕ) → List Answer → List Operation
-begunBy s turn writes [] = begun (s .pools) writes (operationsIn s turn)
-begunBy s turn writes (ofCall (refused number place) ∷ more) = begunBy s turn writes more
-begunBy s turn writes (ofCall (ok answer) ∷ more) =
-    cond (answer .complete) (operationsIn s turn ++ begunBy s (nextTurn turn) 0 more) (begunBy s turn (writes + length (answer .records)) more)
-begunBy s turn writes (ofJump frame (refused number place) ∷ more) = begunBy s turn writes more
-begunBy s turn writes (ofJump frame (ok next) ∷ more) = begun (s .pools) writes (operationsIn s turn) ++ begunBy s (turnOf frame) 0 more
+unfoldable pub begunBy : Stream → WhichVsync → (writes : ℕ) → List Answer → List Operation
+begunBy s which writes [] = begun (s .pools) writes (operationsIn s which)
+begunBy s which writes (ofCall (refused number place) ∷ more) = begunBy s which writes more
+begunBy s which writes (ofCall (ok answer) ∷ more) =
+    cond (answer .complete) (operationsIn s which ++ begunBy s (vsyncBehind which) 0 more) (begunBy s which (writes + length (answer .records)) more)
+begunBy s which writes (ofJump frame (refused number place) ∷ more) = begunBy s which writes more
+begunBy s which writes (ofJump frame (ok next) ∷ more) = begun (s .pools) writes (operationsIn s which) ++ begunBy s (vsyncOfFrame frame) 0 more
 
 -- the pool last copied to a channel of a core by the steps of a started player
 unfoldable pub waveSourceBehind : Stream → List Answer → (core channel : ℕ) → Option ℕ

@@ -82,38 +82,38 @@ closing s = closingWrites (usesSi22 s)
 
 -- which vsync it is: the first of a start, or one without the opening. These are numbered from 0 over the frames of all passes, so that a
 -- number past the last frame is frame 1 again, the closing writes, or nothing
-pub data Turn : Type 0 where
-  first : Turn
-  later : (number : ℕ) → Turn
+pub data WhichVsync : Type 0 where
+  first : WhichVsync
+  later : (number : ℕ) → WhichVsync
 
 -- the one behind it
-abbrev pub nextTurn : Turn → Turn
-nextTurn first = later 1
-nextTurn (later number) = later (suc number)
+abbrev pub vsyncBehind : WhichVsync → WhichVsync
+vsyncBehind first = later 1
+vsyncBehind (later number) = later (suc number)
 
 -- its writes. "The first plays opening and frame 1 together." Behind the last frame a repeating file "plays frame 1 again without the opening";
 -- any other has the closing writes, "once, then nothing"
-unfoldable pub writesIn : Stream → Turn → List WriteRecord
+unfoldable pub writesIn : Stream → WhichVsync → List WriteRecord
 writesIn s first = openingWrites s ++ frameWrites s 0
 writesIn s (later number) =
     cond (s .repeat) (frameWrites s (number % length (s .frames)))
     (cond (ltb number (length (s .frames))) (frameWrites s number) (cond (eqb number (length (s .frames))) (closing s) []))
 
 -- its operations
-unfoldable pub operationsIn : Stream → Turn → List Operation
+unfoldable pub operationsIn : Stream → WhichVsync → List Operation
 operationsIn s first = s .opening ++ getD (s .frames) 0 []
 operationsIn s (later number) =
     cond (s .repeat) (getD (s .frames) (number % length (s .frames)) [])
     (cond (ltb number (length (s .frames))) (getD (s .frames) number []) [])
 
 -- the vsync behind so many others, where no jump is made
-abbrev pub turnAt : ℕ → Turn
-turnAt zero = first
-turnAt (suc k) = later (suc k)
+abbrev pub vsyncNumbered : ℕ → WhichVsync
+vsyncNumbered zero = first
+vsyncNumbered (suc k) = later (suc k)
 
 -- its writes and its operations
 unfoldable pub vsync : Stream → ℕ → List WriteRecord
-vsync s k = writesIn s (turnAt k)
+vsync s k = writesIn s (vsyncNumbered k)
 
 unfoldable pub vsyncOperations : Stream → ℕ → List Operation
-vsyncOperations s k = operationsIn s (turnAt k)
+vsyncOperations s k = operationsIn s (vsyncNumbered k)

@@ -21,7 +21,7 @@ use Rattle.base_format.proofs.Checks.{or-false, positive}
 use Rattle.base_format.proofs.Equal.{same-bytes, bytes-self}
 use Rattle.base_field_laws.proofs.Places.{Holds}
 use Rattle.index_laws.specs.Built.{entriesWalk, builtTrailer}
-use Rattle.index_laws.specs.Frames.{framesEnd}
+use Rattle.index_laws.specs.Frames.{framesWalked}
 use Rattle.index_laws.proofs.Frames.{frames-next}
 use Rattle.index_laws.proofs.Index.{index-entry, index-right, built-is}
 use Rattle.index_laws.proofs.Places.{frame-count}
@@ -52,7 +52,7 @@ entries-hold version file index zero entry at rest =
     let end : (entry + 0) * 4 ≡ entry * 4 = omega arith in
     (λ both. subst (λ (n : ℕ). Holds index 0 n rest) end (both .1), λ h. (refl, subst (λ (n : ℕ). Holds index 0 n rest) (sym end) h))
 entries-hold version file index (suc count) entry at rest =
-    let after = framesEnd version file 64 at in
+    let after = framesWalked version file 64 at in
     let more = entries-hold version file index count (entry + 1) after rest in
     let end : (entry + 1 + count) * 4 ≡ (entry + suc count) * 4 = omega arith in
     let next : (entry + 1) * 4 ≡ entry * 4 + 4 = omega arith in
@@ -112,4 +112,4 @@ module _ (file : List ℕ) (s : Stream) (e : read file ≡ ok s) where
       let some = positive frame (tests .0) in
       let n = frame - 1 in
       let number : n / 64 * 64 + n % 64 ≡ n = omega arith in
-      ap (framesEnd (headerOf file .version) file (n % 64)) (index-entry file s e (n / 64) (omega arith)) ∙ frames-next file s acc (n % 64) (n / 64 * 64) (omega arith) ∙ ap (framePlace s) number
+      ap (framesWalked (headerOf file .version) file (n % 64)) (index-entry file s e (n / 64) (omega arith)) ∙ frames-next file s acc (n % 64) (n / 64 * 64) (omega arith) ∙ ap (framePlace s) number

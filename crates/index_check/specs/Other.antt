@@ -9,7 +9,7 @@ use Rattle.base_format.specs.declared.header.Header.{Header}
 use Rattle.base_format.specs.Bytes.{be}
 use Rattle.base_format.specs.Index.{entriesFor}
 use Rattle.base_format.specs.Size.{indexSpacing, indexEntrySize, indexTrailerSize}
-use Rattle.index_laws.specs.Frames.{framesEnd}
+use Rattle.index_laws.specs.Frames.{framesWalked}
 
 -- the trailer at a place, which is the distance back to the first entry too
 unfoldable pub trailerOther : (index : List ℕ) → (place entries total : ℕ) → Bool
@@ -20,7 +20,7 @@ trailerOther index place entries total =
 unfoldable pub entriesOther : (version : ℕ) → List ℕ → (index : List ℕ) → (count entry at : ℕ) → Bool
 entriesOther version file index zero entry at = false
 entriesOther version file index (suc count) entry at =
-    not (eqb (be 4 index (entry * indexEntrySize)) at) || entriesOther version file index count (entry + 1) (framesEnd version file indexSpacing at)
+    not (eqb (be 4 index (entry * indexEntrySize)) at) || entriesOther version file index count (entry + 1) (framesWalked version file indexSpacing at)
 
 unfoldable pub otherIndex : List ℕ → Header → (index : List ℕ) → Bool
 otherIndex file header index =

@@ -4,8 +4,8 @@ use Prim.Native.Nat.{ℕ, _*_, _-_, _/_, _%_}
 use mathlib.Core.List.{List}
 use Rattle.base_format.specs.Bytes.{be}
 use Rattle.base_format.specs.Size.{indexSpacing, indexEntrySize}
-use Rattle.index_laws.specs.Frames.{framesEnd}
+use Rattle.index_laws.specs.Frames.{framesWalked}
 
 unfoldable pub placeBy : (version : ℕ) → List ℕ → (index : List ℕ) → (frame : ℕ) → ℕ
 placeBy version file index frame =
-    framesEnd version file ((frame - 1) % indexSpacing) (be 4 index ((frame - 1) / indexSpacing * indexEntrySize))
+    framesWalked version file ((frame - 1) % indexSpacing) (be 4 index ((frame - 1) / indexSpacing * indexEntrySize))

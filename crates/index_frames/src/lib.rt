@@ -14,7 +14,7 @@ ghost use mathlib.Core.Path.{_≡_};
 ghost use Prim.Native.Nat.{_≤_, min};
 ghost use Rattle.base_format.specs.Index.{entriesFor};
 ghost use Rattle.base_format.specs.Operation.{sizeOf};
-ghost use Rattle.index_laws.specs.Frames.{walkLimit, itemsEnd, frameEnd, framesEnd};
+ghost use Rattle.index_laws.specs.Frames.{walkLimit, itemsWalked, frameWalked, framesWalked};
 
 // The bytes of an operation; what is no opcode counts as a COPY. Each size is a choice between constants, and the place of the next operation
 // waits for no load.
@@ -34,7 +34,7 @@ fn item_size(width: usize, opcode: u8) -> usize
 // Where so many operations end.
 fn items_end(file: &[u8], width: usize, limit: usize, count: u32, start: usize) -> usize
     requires { ⌜ (3 ≤ width) × (width ≤ 4) × (limit ≡ walkLimit (now file)) ⌝ }
-    ensures { λ r. ⌜ r ≡ itemsEnd width (now (file .entry)) count start ⌝ }
+    ensures { λ r. ⌜ r ≡ itemsWalked width (now (file .entry)) count start ⌝ }
 {
     let mut at = start;
     let mut left = count;
@@ -51,7 +51,7 @@ fn items_end(file: &[u8], width: usize, limit: usize, count: u32, start: usize) 
 
 // Where the frame ends whose count stands at a place. The records of version 1 are all alike, and need no walk.
 fn frame_end(file: &[u8], version: u8, at: usize) -> usize
-    ensures { λ r. ⌜ r ≡ frameEnd version (now (file .entry)) at ⌝ }
+    ensures { λ r. ⌜ r ≡ frameWalked version (now (file .entry)) at ⌝ }
 {
     let limit = smaller(file.len(), FILE_LIMIT as usize);
     if at < limit {
@@ -73,7 +73,7 @@ struct FramesLeft {
 
 // Passes empty frames in front of so many, four at a time: a file may have millions of them. What is left ends where all ends.
 fn pass_empty(file: &[u8], version: u8, count: u32, start: usize) -> FramesLeft
-    ensures { λ r. ⌜ framesEnd version (now (file .entry)) count start ≡ framesEnd version (now (file .entry)) (r .left) (r .at) ⌝ }
+    ensures { λ r. ⌜ framesWalked version (now (file .entry)) count start ≡ framesWalked version (now (file .entry)) (r .left) (r .at) ⌝ }
 {
     let limit = smaller(file.len(), FILE_LIMIT as usize);
     let mut at = start;
@@ -96,7 +96,7 @@ fn pass_empty(file: &[u8], version: u8, count: u32, start: usize) -> FramesLeft
 
 // Where so many frames end, one after the other.
 fn walk_frames(file: &[u8], version: u8, count: u32, start: usize) -> usize
-    ensures { λ r. ⌜ r ≡ framesEnd version (now (file .entry)) count start ⌝ }
+    ensures { λ r. ⌜ r ≡ framesWalked version (now (file .entry)) count start ⌝ }
 {
     let mut at = start;
     let mut left = count;
@@ -109,7 +109,7 @@ fn walk_frames(file: &[u8], version: u8, count: u32, start: usize) -> usize
 
 // Where so many frames end, the first of which has its count at a place.
 pub fn frames_end(file: &[u8], version: u8, count: u32, start: usize) -> usize
-    ensures { λ r. ⌜ r ≡ framesEnd version (now (file .entry)) count start ⌝ }
+    ensures { λ r. ⌜ r ≡ framesWalked version (now (file .entry)) count start ⌝ }
 {
     let next = pass_empty(file, version, count, start);
     walk_frames(file, version, next.left, next.at)

@@ -8,7 +8,7 @@ use borrow.Author.Tests.{lt-ltb}
 use lib.Dec.{eqb}
 use Rattle.base_format.specs.Bytes.{be}
 use Rattle.base_format.specs.Operation.{addressWidth}
-use Rattle.index_laws.specs.Frames.{walkLimit, itemsEnd, frameEnd, framesEnd}
+use Rattle.index_laws.specs.Frames.{walkLimit, itemsWalked, frameWalked, framesWalked}
 use Rattle.index_laws.proofs.Frames.{items-none, frames-step}
 
 -- two counts that are 0 together
@@ -20,21 +20,21 @@ both-empty file at none =
     (omega (arith, none), rw (third, fourth) (omega (arith, none)))
 
 -- an empty frame ends behind its count
-empty-frame : (version : ℕ) (file : List ℕ) (at : ℕ) → at < walkLimit file → be 2 file at ≡ 0 → frameEnd version file at ≡ at + 2
-unfolding frameEnd
+empty-frame : (version : ℕ) (file : List ℕ) (at : ℕ) → at < walkLimit file → be 2 file at ≡ 0 → frameWalked version file at ≡ at + 2
+unfolding frameWalked
 empty-frame version file at less none = rw (lt-ltb at (walkLimit file) less, none) (go (eqb version 1))
   where
-    go : (b : Bool) → cond b (at + 2 + 0 * 5) (itemsEnd (addressWidth version) file 0 (at + 2)) ≡ at + 2
+    go : (b : Bool) → cond b (at + 2 + 0 * 5) (itemsWalked (addressWidth version) file 0 (at + 2)) ≡ at + 2
     go true = omega arith
     go false = items-none (addressWidth version) file (at + 2)
 
 one-empty : (version : ℕ) (file : List ℕ) (count at : ℕ) → 0 < count → at < walkLimit file → be 2 file at ≡ 0
-    → framesEnd version file count at ≡ framesEnd version file (count - 1) (at + 2)
+    → framesWalked version file count at ≡ framesWalked version file (count - 1) (at + 2)
 one-empty version file count at some less none =
-    frames-step version file count at some ∙ ap (framesEnd version file (count - 1)) (empty-frame version file at less none)
+    frames-step version file count at some ∙ ap (framesWalked version file (count - 1)) (empty-frame version file at less none)
 
 two-empty : (version : ℕ) (file : List ℕ) (count at : ℕ) → 2 ≤ count → at + 4 ≤ walkLimit file → be 4 file at ≡ 0
-    → framesEnd version file count at ≡ framesEnd version file (count - 2) (at + 4)
+    → framesWalked version file count at ≡ framesWalked version file (count - 2) (at + 4)
 two-empty version file count at some room none =
     let both = both-empty file at none in
     let left : count - 1 - 1 ≡ count - 2 = omega arith in
@@ -44,7 +44,7 @@ two-empty version file count at some room none =
     ∙ rw (left, next)
 
 pub four-empty : (version : ℕ) (file : List ℕ) (count at : ℕ) → 4 ≤ count → at + 8 ≤ walkLimit file → be 4 file at ≡ 0 → be 4 file (at + 4) ≡ 0
-    → framesEnd version file count at ≡ framesEnd version file (count - 4) (at + 8)
+    → framesWalked version file count at ≡ framesWalked version file (count - 4) (at + 8)
 four-empty version file count at some room none none′ =
     let left : count - 2 - 2 ≡ count - 4 = omega arith in
     let next : at + 4 + 4 ≡ at + 8 = omega arith in

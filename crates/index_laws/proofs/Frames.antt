@@ -20,7 +20,7 @@ use Rattle.base_format.proofs.Bytes.{be-below}
 use Rattle.base_format.proofs.Checks.{ok-is}
 use Rattle.base_format.proofs.Sizes.{size-is, size-most, width-range}
 use Rattle.base_format.proofs.Steps.{record-is, operation-is, operation-step}
-use Rattle.index_laws.specs.Frames.{walkLimit, itemSize, itemsEnd, frameEnd, framesEnd}
+use Rattle.index_laws.specs.Frames.{walkLimit, itemSize, itemsWalked, frameWalked, framesWalked}
 use Rattle.index_laws.proofs.Places.{ownSetting, frame-operations}
 
 -- where the walk goes on
@@ -57,8 +57,8 @@ operation-next setting file at item other e =
 
 operations-next : (setting : Setting) (file : List ℕ) (count at : ℕ) (found : List Operation × ℕ) → length file ≤ 0xE00000
     → eqb (setting .version) 1 ≡ false → operationsFrom setting file (length file) count at ≡ ok found
-    → found .1 ≡ itemsEnd (addressWidth (setting .version)) file count at
-unfolding operationsFrom itemsEnd
+    → found .1 ≡ itemsWalked (addressWidth (setting .version)) file count at
+unfolding operationsFrom itemsWalked
 operations-next setting file zero at found small other e = ap (λ (f : List Operation × ℕ). f .1) (sym (ok-is e))
 operations-next setting file (suc count) at found small other e =
     let step = operation-step setting file (length file) count at found e in
@@ -66,12 +66,12 @@ operations-next setting file (suc count) at found small other e =
     let mine = operation-next setting file at (step .item) other (step .here) in
     ap (λ (f : List Operation × ℕ). f .1) (sym (step .is))
     ∙ more
-    ∙ rw (goes-on file at (mine .0) small) (ap (itemsEnd (addressWidth (setting .version)) file count) (mine .1))
+    ∙ rw (goes-on file at (mine .0) small) (ap (itemsWalked (addressWidth (setting .version)) file count) (mine .1))
 
 module _ (file : List ℕ) (s : Stream) (acc : Accepted file (headerOf file) s) where
   -- from the place of a frame's count to that of the next
-  pub frame-next : (frame : ℕ) → frame < length (s .frames) → frameEnd (headerOf file .version) file (framePlace s frame) ≡ framePlace s (frame + 1)
-  unfolding frameEnd
+  pub frame-next : (frame : ℕ) → frame < length (s .frames) → frameWalked (headerOf file .version) file (framePlace s frame) ≡ framePlace s (frame + 1)
+  unfolding frameWalked
   frame-next frame less =
       let found = frame-operations file s acc frame less in
       let small : length file ≤ 0xE00000 = omega (arith, acc .small, acc .size) in
@@ -87,12 +87,12 @@ module _ (file : List ℕ) (s : Stream) (acc : Accepted file (headerOf file) s) 
       go false one other = other refl
 
   -- and over so many frames
-  pub frames-next : (count frame : ℕ) → frame + count ≤ length (s .frames) → framesEnd (headerOf file .version) file count (framePlace s frame) ≡ framePlace s (frame + count)
-  unfolding framesEnd
+  pub frames-next : (count frame : ℕ) → frame + count ≤ length (s .frames) → framesWalked (headerOf file .version) file count (framePlace s frame) ≡ framePlace s (frame + count)
+  unfolding framesWalked
   frames-next zero frame most = ap (framePlace s) (sym (add-zero frame))
   frames-next (suc count) frame most =
       let number : frame + 1 + count ≡ frame + suc count = omega arith in
-      ap (framesEnd (headerOf file .version) file count) (frame-next frame (omega arith)) ∙ frames-next count (frame + 1) (omega arith) ∙ ap (framePlace s) number
+      ap (framesWalked (headerOf file .version) file count) (frame-next frame (omega arith)) ∙ frames-next count (frame + 1) (omega arith) ∙ ap (framePlace s) number
 
 -- HOW FAR IT GOES: a place in 4 bytes stays one
 
@@ -104,48 +104,48 @@ still-or-near file at next small near = go (ltb at (walkLimit file)) refl
     go true e = near (omega (arith, ltb-true at (walkLimit file) e))
     go false e = small
 
-items-small : (width : ℕ) (file : List ℕ) (count at : ℕ) → 3 ≤ width → width ≤ 4 → at < 2 ^ 32 → itemsEnd width file count at < 2 ^ 32
-unfolding itemsEnd
+items-small : (width : ℕ) (file : List ℕ) (count at : ℕ) → 3 ≤ width → width ≤ 4 → at < 2 ^ 32 → itemsWalked width file count at < 2 ^ 32
+unfolding itemsWalked
 items-small width file zero at low high small = small
 items-small width file (suc count) at low high small =
     let next = at + itemSize width file at in
     let most = size-most width (min (byte file at) 2) low high (omega arith) in
-    still-or-near file at (itemsEnd width file count next) small (λ near. items-small width file count next low high (omega arith))
+    still-or-near file at (itemsWalked width file count next) small (λ near. items-small width file count next low high (omega arith))
 
-frame-small : (version : ℕ) (file : List ℕ) (at : ℕ) → AllBytes file → at < 2 ^ 32 → frameEnd version file at < 2 ^ 32
-unfolding frameEnd
+frame-small : (version : ℕ) (file : List ℕ) (at : ℕ) → AllBytes file → at < 2 ^ 32 → frameWalked version file at < 2 ^ 32
+unfolding frameWalked
 frame-small version file at bytes small = still-or-near file at _ small (go (eqb version 1))
   where
-    go : (b : Bool) → at < 0xE00000 → cond b (at + 2 + be 2 file at * 5) (itemsEnd (addressWidth version) file (be 2 file at) (at + 2)) < 2 ^ 32
+    go : (b : Bool) → at < 0xE00000 → cond b (at + 2 + be 2 file at * 5) (itemsWalked (addressWidth version) file (be 2 file at) (at + 2)) < 2 ^ 32
     go true near = let few : be 2 file at < 65536 = be-below 2 file at bytes in omega arith
     go false near = items-small (addressWidth version) file (be 2 file at) (at + 2) (width-range version .0) (width-range version .1) (omega arith)
 
-pub frames-small : (version : ℕ) (file : List ℕ) (count at : ℕ) → AllBytes file → at < 2 ^ 32 → framesEnd version file count at < 2 ^ 32
-unfolding framesEnd
+pub frames-small : (version : ℕ) (file : List ℕ) (count at : ℕ) → AllBytes file → at < 2 ^ 32 → framesWalked version file count at < 2 ^ 32
+unfolding framesWalked
 frames-small version file zero at bytes small = small
-frames-small version file (suc count) at bytes small = frames-small version file count (frameEnd version file at) bytes (frame-small version file at bytes small)
+frames-small version file (suc count) at bytes small = frames-small version file count (frameWalked version file at) bytes (frame-small version file at bytes small)
 
 -- ITS STEPS
 
-pub items-step : (width : ℕ) (file : List ℕ) (count at : ℕ) → 0 < count → at < walkLimit file → itemsEnd width file count at ≡ itemsEnd width file (count - 1) (at + itemSize width file at)
-unfolding itemsEnd
+pub items-step : (width : ℕ) (file : List ℕ) (count at : ℕ) → 0 < count → at < walkLimit file → itemsWalked width file count at ≡ itemsWalked width file (count - 1) (at + itemSize width file at)
+unfolding itemsWalked
 items-step width file zero at some less = absurd (omega arith)
 items-step width file (suc count) at some less = let left : suc count - 1 ≡ count = omega arith in rw (left, lt-ltb at (walkLimit file) less)
 
-pub items-still : (width : ℕ) (file : List ℕ) (count at : ℕ) → walkLimit file ≤ at → itemsEnd width file count at ≡ at
-unfolding itemsEnd
+pub items-still : (width : ℕ) (file : List ℕ) (count at : ℕ) → walkLimit file ≤ at → itemsWalked width file count at ≡ at
+unfolding itemsWalked
 items-still width file zero at past = refl
 items-still width file (suc count) at past = rw (le-ltb at (walkLimit file) past)
 
-pub items-none : (width : ℕ) (file : List ℕ) (at : ℕ) → itemsEnd width file 0 at ≡ at
-unfolding itemsEnd
+pub items-none : (width : ℕ) (file : List ℕ) (at : ℕ) → itemsWalked width file 0 at ≡ at
+unfolding itemsWalked
 items-none width file at = refl
 
-pub frames-step : (version : ℕ) (file : List ℕ) (count at : ℕ) → 0 < count → framesEnd version file count at ≡ framesEnd version file (count - 1) (frameEnd version file at)
-unfolding framesEnd
+pub frames-step : (version : ℕ) (file : List ℕ) (count at : ℕ) → 0 < count → framesWalked version file count at ≡ framesWalked version file (count - 1) (frameWalked version file at)
+unfolding framesWalked
 frames-step version file zero at some = absurd (omega arith)
 frames-step version file (suc count) at some = let left : suc count - 1 ≡ count = omega arith in rw left
 
-pub frames-none : (version : ℕ) (file : List ℕ) (at : ℕ) → framesEnd version file 0 at ≡ at
-unfolding framesEnd
+pub frames-none : (version : ℕ) (file : List ℕ) (at : ℕ) → framesWalked version file 0 at ≡ at
+unfolding framesWalked
 frames-none version file at = refl

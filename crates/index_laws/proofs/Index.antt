@@ -24,7 +24,7 @@ use Rattle.base_format.proofs.Written.{frames-count}
 use Rattle.base_field_laws.proofs.Places.{Holds, Fit, holds, took-fields}
 use Rattle.index_laws.specs.Built.{entriesWalk, builtFields, builtTrailer}
 use Rattle.index_laws.proofs.Frames.{frames-next}
-use Rattle.index_laws.proofs.Places.{frame-count, place-first, last-place, frame-within}
+use Rattle.index_laws.proofs.Places.{frame-count, place-first, last-place, place-within}
 
 -- HOW LONG IT IS
 
@@ -64,7 +64,7 @@ index-small file s e =
 
 place-fits : (file : List ℕ) (s : Stream) → Accepted file (headerOf file) s → (frame : ℕ) → framePlace s frame < 256 ^ 4
 place-fits file s acc frame =
-    let small : framePlace s frame < 4294967296 = omega (arith, frame-within file s acc frame, acc .size, acc .small) in
+    let small : framePlace s frame < 4294967296 = omega (arith, place-within file s acc frame, acc .size, acc .small) in
     small
 
 places-fit : (file : List ℕ) (s : Stream) → Accepted file (headerOf file) s → (count frame : ℕ) (rest : List Field) → Fit rest → Fit (placesFrom s count frame ++ rest)

@@ -83,17 +83,17 @@ frames-read-count setting file (suc count) at frames end e =
     ap (λ (x : List (List Operation) × ℕ). length (x .0)) (sym (step .is)) ∙ ap suc (frames-read-count setting file count (step .frame .1) (step .others .0) (step .others .1) (step .from))
 
 -- where some frames are read, the later ones are read from where the written earlier ones end
-frames-behind : (setting : Setting) (file : List ℕ) (count more at : ℕ) (frames : List (List Operation)) (end : ℕ)
+frames-later : (setting : Setting) (file : List ℕ) (count more at : ℕ) (frames : List (List Operation)) (end : ℕ)
     → framesFrom setting file (count + more) at ≡ ok (frames, end)
     → framesFrom setting file more (at + length (framesBytes (setting .version) (take count frames))) ≡ ok (drop count frames, end)
 unfolding framesBytes
-frames-behind setting file zero more at frames end e = rw add-zero (rw zero-add at e)
-frames-behind setting file (suc count) more at frames end e =
+frames-later setting file zero more at frames end e = rw add-zero (rw zero-add at e)
+frames-later setting file (suc count) more at frames end e =
     let number : suc count + more ≡ suc (count + more) = omega arith in
     let step = frame-step setting file (count + more) at (frames, end) (rw number at e) in
     let v = setting .version in
     let mine = operations-long setting file (length file) (be 2 file at) (at + 2) (step .frame) (step .here) in
-    let behind = frames-behind setting file count more (step .frame .1) (step .others .0) (step .others .1) (step .from) in
+    let behind = frames-later setting file count more (step .frame .1) (step .others .0) (step .others .1) (step .from) in
     let two : length (bytesOfAll (u16 (length (step .frame .0)) ∷ [])) ≡ 2 = fields-size _ in
     let rest = framesBytes v (take count (step .others .0)) in
     let place : step .frame .1 + length rest ≡ at + length (bytesOfAll (u16 (length (step .frame .0)) ∷ []) ++ (operationsBytes v (step .frame .0) ++ rest)) =
@@ -144,7 +144,7 @@ module _ (file : List ℕ) (s : Stream) (acc : Accepted file (headerOf file) s) 
   pub frames-at : (frame more : ℕ) → frame + more ≡ headerOf file .«frame_count» → framesFrom (ownSetting file s) file more (framePlace s frame) ≡ ok (drop frame (s .frames), length file)
   frames-at frame more count =
       let read-all : framesFrom (ownSetting file s) file (frame + more) (headerOf file .«frame_start») ≡ ok (s .frames, length file) = rw count (acc .frames) in
-      let behind = frames-behind (ownSetting file s) file frame more (headerOf file .«frame_start») (s .frames) (length file) read-all in
+      let behind = frames-later (ownSetting file s) file frame more (headerOf file .«frame_start») (s .frames) (length file) read-all in
       let place = ap₂ (λ (start version : ℕ). start + length (framesBytes version (take frame (s .frames)))) first-place (sym (acc .version)) in
       ap (framesFrom (ownSetting file s) file more) (sym place) ∙ behind
 
@@ -160,8 +160,8 @@ module _ (file : List ℕ) (s : Stream) (acc : Accepted file (headerOf file) s) 
   place-last = ap (λ (l : List (List Operation)). framesPlace s + length (framesBytes (s .version) l)) (take-length (s .frames)) ∙ last-place
 
   -- no place of a frame passes the file's end
-  pub frame-within : (frame : ℕ) → framePlace s frame ≤ length file
-  frame-within frame = omega (arith, last-place, some-long (s .version) frame (s .frames))
+  pub place-within : (frame : ℕ) → framePlace s frame ≤ length file
+  place-within frame = omega (arith, last-place, some-long (s .version) frame (s .frames))
 
   -- a frame's count lies within the file, and the operations behind it end at the next frame's
   pub frame-operations : (frame : ℕ) → frame < length (s .frames)

@@ -5,12 +5,12 @@ use Rattle.base_format.specs.declared.header.Header.{Header}
 use Rattle.base_format.specs.Bytes.{Field, u32}
 use Rattle.base_format.specs.Index.{entriesFor}
 use Rattle.base_format.specs.Size.{indexSpacing, indexEntrySize}
-use Rattle.index_laws.specs.Frames.{framesEnd}
+use Rattle.index_laws.specs.Frames.{framesWalked}
 
 -- so many entries, from the place of a frame's count on
 unfoldable pub entriesWalk : (version : ℕ) → List ℕ → (count at : ℕ) → List Field
 entriesWalk version file zero at = []
-entriesWalk version file (suc count) at = u32 at ∷ entriesWalk version file count (framesEnd version file indexSpacing at)
+entriesWalk version file (suc count) at = u32 at ∷ entriesWalk version file count (framesWalked version file indexSpacing at)
 
 -- the trailer of so many entries
 abbrev pub builtTrailer : (entries total : ℕ) → List Field

@@ -18,18 +18,18 @@ abbrev pub itemSize : (width : ℕ) → List ℕ → (at : ℕ) → ℕ
 itemSize width file at = sizeOf width (min (byte file at) 2)
 
 -- where so many operations from a place end
-unfoldable pub itemsEnd : (width : ℕ) → List ℕ → (count at : ℕ) → ℕ
-itemsEnd width file zero at = at
-itemsEnd width file (suc count) at = cond (ltb at (walkLimit file)) (itemsEnd width file count (at + itemSize width file at)) at
+unfoldable pub itemsWalked : (width : ℕ) → List ℕ → (count at : ℕ) → ℕ
+itemsWalked width file zero at = at
+itemsWalked width file (suc count) at = cond (ltb at (walkLimit file)) (itemsWalked width file count (at + itemSize width file at)) at
 
 -- where the frame whose count stands at a place ends: in version 1 behind so many records, which are all alike
-unfoldable pub frameEnd : (version : ℕ) → List ℕ → (at : ℕ) → ℕ
-frameEnd version file at =
+unfoldable pub frameWalked : (version : ℕ) → List ℕ → (at : ℕ) → ℕ
+frameWalked version file at =
     cond (ltb at (walkLimit file))
-    (cond (eqb version 1) (at + countSize + be 2 file at * recordSize) (itemsEnd (addressWidth version) file (be 2 file at) (at + countSize)))
+    (cond (eqb version 1) (at + countSize + be 2 file at * recordSize) (itemsWalked (addressWidth version) file (be 2 file at) (at + countSize)))
     at
 
 -- and so many frames from a place
-unfoldable pub framesEnd : (version : ℕ) → List ℕ → (count at : ℕ) → ℕ
-framesEnd version file zero at = at
-framesEnd version file (suc count) at = framesEnd version file count (frameEnd version file at)
+unfoldable pub framesWalked : (version : ℕ) → List ℕ → (count at : ℕ) → ℕ
+framesWalked version file zero at = at
+framesWalked version file (suc count) at = framesWalked version file count (frameWalked version file at)

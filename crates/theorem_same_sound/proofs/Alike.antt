@@ -10,11 +10,11 @@ use Rattle.base_format.specs.Compare.{coreWrites, played}
 use Rattle.base_format.specs.Listener.{Listener, newListener}
 use Rattle.base_format.specs.Steps.{writesInAll}
 use Rattle.base_format.specs.Stream.{Stream}
-use Rattle.base_format.specs.Writes.{openingWrites, frameWrites, usesSi22, silence, closingWrites, closing, Turn, first, later, writesIn}
+use Rattle.base_format.specs.Writes.{openingWrites, frameWrites, usesSi22, silence, closingWrites, closing, WhichVsync, first, later, writesIn}
 use Rattle.base_format.specs.Promises.{Agree}
 use Rattle.base_format.proofs.Equal.{core-append, played-append}
 use Rattle.theorem_same_sound.proofs.Heard.{heardVsyncs, between}
-use Rattle.theorem_same_sound.proofs.Turns.{OnlyLater, LaterBehind}
+use Rattle.theorem_same_sound.proofs.Which.{OnlyLater, LaterBehind}
 
 -- two lists of writes that a listener cannot tell apart
 pub record Alike (a b : List WriteRecord) : Type 0 where
@@ -46,15 +46,15 @@ alike-later s s′ a k =
     go false false false = alike-refl refl
 
 -- vsyncs without the opening leave two listeners that held the same with the same
-later-alike : (s s′ : Stream) → Agree s s′ → (turns : List Turn) → OnlyLater turns → (l l′ : Listener) → l ≡ l′ → heardVsyncs l (writesInAll s turns) ≡ heardVsyncs l′ (writesInAll s′ turns)
+later-alike : (s s′ : Stream) → Agree s s′ → (vsyncs : List WhichVsync) → OnlyLater vsyncs → (l l′ : Listener) → l ≡ l′ → heardVsyncs l (writesInAll s vsyncs) ≡ heardVsyncs l′ (writesInAll s′ vsyncs)
 unfolding heardVsyncs
 later-alike s s′ a [] only l l′ e = e
-later-alike s s′ a (first ∷ turns) only l l′ e = absurd only
-later-alike s s′ a (later k ∷ turns) only l l′ e =
+later-alike s s′ a (first ∷ vsyncs) only l l′ e = absurd only
+later-alike s s′ a (later k ∷ vsyncs) only l l′ e =
     let alike = alike-later s s′ a k in
     let ended = ap₂ (λ (l : Listener) (v : List WriteRecord). l .ended ++ (v ∷ [])) e (alike .cores) in
     let pcm = ap (λ (l : Listener). played (l .pcm) (writesIn s (later k))) e ∙ alike .pcm (l′ .pcm) in
-    later-alike s s′ a turns only _ _ (ap₂ between ended pcm)
+    later-alike s s′ a vsyncs only _ _ (ap₂ between ended pcm)
 
 -- the first vsync of a start
 first-alike : (s s′ : Stream) → Agree s s′
@@ -67,8 +67,8 @@ first-alike s s′ a =
     ap₂ (λ (v : List WriteRecord) (pcm : List ℕ). between (v ∷ []) pcm) cores pcm
 
 -- and so do all of them, where only the first has the opening
-pub all-alike : (s s′ : Stream) → Agree s s′ → (turns : List Turn) → LaterBehind turns → heardVsyncs newListener (writesInAll s turns) ≡ heardVsyncs newListener (writesInAll s′ turns)
+pub all-alike : (s s′ : Stream) → Agree s s′ → (vsyncs : List WhichVsync) → LaterBehind vsyncs → heardVsyncs newListener (writesInAll s vsyncs) ≡ heardVsyncs newListener (writesInAll s′ vsyncs)
 unfolding heardVsyncs newListener
 all-alike s s′ a [] behind = refl
-all-alike s s′ a (first ∷ turns) behind = later-alike s s′ a turns behind _ _ (first-alike s s′ a)
-all-alike s s′ a (later k ∷ turns) behind = later-alike s s′ a (later k ∷ turns) behind newListener newListener refl
+all-alike s s′ a (first ∷ vsyncs) behind = later-alike s s′ a vsyncs behind _ _ (first-alike s s′ a)
+all-alike s s′ a (later k ∷ vsyncs) behind = later-alike s s′ a (later k ∷ vsyncs) behind newListener newListener refl

@@ -13,11 +13,11 @@ use Rattle.base_format.specs.Checked.{Checked, ok, refused}
 use Rattle.base_format.specs.Listener.{Call, after, answers, reached, AllAdmissible, completed, resting, recordsFrom, underWayFrom, vsyncsFrom}
 use Rattle.base_format.specs.Player.{Played, call}
 use Rattle.base_format.specs.Steps.{Step, vsyncCall, Answer, ofCall, stepAnswers, reachedBy, AllAdmissibleSteps, callAnswers, restingSteps, jumpsFrom, stepRecordsFrom}
-use Rattle.base_format.specs.Steps.{turnsFrom, completedFrom, dueFrom, writesInAll}
+use Rattle.base_format.specs.Steps.{vsyncsInOrder, completedFrom, dueFrom, writesInAll}
 use Rattle.base_format.specs.Stream.{Stream}
 use Rattle.base_format.specs.WaveSources.{begun, begunBy, operationsBefore}
-use Rattle.base_format.specs.Writes.{Turn, nextTurn, turnAt, writesIn, vsync, vsyncOperations}
-use Rattle.theorem_same_sound.proofs.Turns.{either-way}
+use Rattle.base_format.specs.Writes.{WhichVsync, vsyncBehind, vsyncNumbered, writesIn, vsync, vsyncOperations}
+use Rattle.theorem_same_sound.proofs.Which.{either-way}
 
 -- CALLS AS STEPS
 
@@ -65,33 +65,34 @@ records-of current (ok answer ∷ more) =
     ap₂ (λ (a b : List (List WriteRecord)). cond (answer .complete) ((current ++ answer .records) ∷ a) b) (records-of [] more) (records-of (current ++ answer .records) more)
 
 -- the vsyncs that they complete come one after the other
-pub turns-of : (turn : Turn) (told : List (Checked Played)) → completedFrom turn (map ofCall told) ≡ turnsFrom turn (completed told)
-unfolding completedFrom turnsFrom completed
-turns-of turn [] = refl
-turns-of turn (refused number place ∷ more) = turns-of turn more
-turns-of turn (ok answer ∷ more) =
+pub vsyncs-of : (which : WhichVsync) (told : List (Checked Played)) → completedFrom which (map ofCall told) ≡ vsyncsInOrder which (completed told)
+unfolding completedFrom vsyncsInOrder completed
+vsyncs-of which [] = refl
+vsyncs-of which (refused number place ∷ more) = vsyncs-of which more
+vsyncs-of which (ok answer ∷ more) =
     either-way
-    (λ (done : Bool). cond done (turn ∷ completedFrom (nextTurn turn) (map ofCall more)) (completedFrom turn (map ofCall more)) ≡ turnsFrom turn (cond done (suc (completed more)) (completed more)))
-    (ap (λ (l : List Turn). turn ∷ l) (turns-of (nextTurn turn) more)) (turns-of turn more) (answer .complete)
+    (λ (done : Bool). cond done (which ∷ completedFrom (vsyncBehind which) (map ofCall more)) (completedFrom which (map ofCall more))
+    ≡ vsyncsInOrder which (cond done (suc (completed more)) (completed more)))
+    (ap (λ (l : List WhichVsync). which ∷ l) (vsyncs-of (vsyncBehind which) more)) (vsyncs-of which more) (answer .complete)
 
-next-at : (k : ℕ) → nextTurn (turnAt k) ≡ turnAt (suc k)
+next-at : (k : ℕ) → vsyncBehind (vsyncNumbered k) ≡ vsyncNumbered (suc k)
 next-at zero = refl
 next-at (suc k) = refl
 
-pub writes-of : (s : Stream) (k count : ℕ) → writesInAll s (turnsFrom (turnAt k) count) ≡ vsyncsFrom s k count
-unfolding turnsFrom vsyncsFrom vsync
+pub writes-of : (s : Stream) (k count : ℕ) → writesInAll s (vsyncsInOrder (vsyncNumbered k) count) ≡ vsyncsFrom s k count
+unfolding vsyncsInOrder vsyncsFrom vsync
 writes-of s k zero = refl
 writes-of s k (suc count) =
-    ap (λ (l : List (List WriteRecord)). writesIn s (turnAt k) ∷ l) (ap (λ (turn : Turn). writesInAll s (turnsFrom turn count)) (next-at k) ∙ writes-of s (suc k) count)
+    ap (λ (l : List (List WriteRecord)). writesIn s (vsyncNumbered k) ∷ l) (ap (λ (which : WhichVsync). writesInAll s (vsyncsInOrder which count)) (next-at k) ∙ writes-of s (suc k) count)
 
-pub due-of : (k : ℕ) (told : List (Checked Played)) → dueFrom (turnAt k) (map ofCall told) ≡ turnAt (k + completed told)
+pub due-of : (k : ℕ) (told : List (Checked Played)) → dueFrom (vsyncNumbered k) (map ofCall told) ≡ vsyncNumbered (k + completed told)
 unfolding dueFrom completed
-due-of k [] = ap turnAt (sym (add-zero k))
+due-of k [] = ap vsyncNumbered (sym (add-zero k))
 due-of k (refused number place ∷ more) = due-of k more
 due-of k (ok answer ∷ more) =
     let count : suc k + completed more ≡ k + suc (completed more) = omega arith in
-    either-way (λ (done : Bool). dueFrom (cond done (nextTurn (turnAt k)) (turnAt k)) (map ofCall more) ≡ turnAt (k + cond done (suc (completed more)) (completed more)))
-    (ap (λ (turn : Turn). dueFrom turn (map ofCall more)) (next-at k) ∙ due-of (suc k) more ∙ ap turnAt count) (due-of k more) (answer .complete)
+    either-way (λ (done : Bool). dueFrom (cond done (vsyncBehind (vsyncNumbered k)) (vsyncNumbered k)) (map ofCall more) ≡ vsyncNumbered (k + cond done (suc (completed more)) (completed more)))
+    (ap (λ (which : WhichVsync). dueFrom which (map ofCall more)) (next-at k) ∙ due-of (suc k) more ∙ ap vsyncNumbered count) (due-of k more) (answer .complete)
 
 -- the operations that are begun when k vsyncs are over, and these records of the next are given
 abbrev begunAt : Stream → (k : ℕ) → List WriteRecord → List Operation
@@ -99,18 +100,18 @@ begunAt s k current = operationsBefore s k ++ begun (s .pools) (length current) 
 
 -- they are those of the vsyncs before and those that the answers begin
 pub begun-of : (s : Stream) (k : ℕ) (current : List WriteRecord) (told : List (Checked Played))
-    → operationsBefore s k ++ begunBy s (turnAt k) (length current) (map ofCall told) ≡ begunAt s (k + completed told) (underWayFrom current told)
+    → operationsBefore s k ++ begunBy s (vsyncNumbered k) (length current) (map ofCall told) ≡ begunAt s (k + completed told) (underWayFrom current told)
 unfolding begunBy completed underWayFrom operationsBefore vsyncOperations
 begun-of s k current [] = ap (λ (n : ℕ). begunAt s n current) (sym (add-zero k))
 begun-of s k current (refused number place ∷ more) = begun-of s k current more
 begun-of s k current (ok answer ∷ more) =
     let now = current ++ answer .records in
-    let by : Turn → ℕ → List Operation = λ turn writes. begunBy s turn writes (map ofCall more) in
+    let by : WhichVsync → ℕ → List Operation = λ which writes. begunBy s which writes (map ofCall more) in
     let count : suc k + completed more ≡ k + suc (completed more) = omega arith in
     let whole =
-    sym (append-assoc (operationsBefore s k) (vsyncOperations s k) (by (nextTurn (turnAt k)) 0)) ∙ ap (λ (turn : Turn). operationsBefore s (suc k) ++ by turn 0) (next-at k)
+    sym (append-assoc (operationsBefore s k) (vsyncOperations s k) (by (vsyncBehind (vsyncNumbered k)) 0)) ∙ ap (λ (which : WhichVsync). operationsBefore s (suc k) ++ by which 0) (next-at k)
     ∙ begun-of s (suc k) [] more ∙ ap (λ (n : ℕ). begunAt s n (underWayFrom [] more)) count in
-    let part = ap (λ (n : ℕ). operationsBefore s k ++ by (turnAt k) n) (sym (length-append current (answer .records))) ∙ begun-of s k now more in
+    let part = ap (λ (n : ℕ). operationsBefore s k ++ by (vsyncNumbered k) n) (sym (length-append current (answer .records))) ∙ begun-of s k now more in
     either-way
-    (λ (done : Bool). operationsBefore s k ++ cond done (vsyncOperations s k ++ by (nextTurn (turnAt k)) 0) (by (turnAt k) (length current + length (answer .records)))
+    (λ (done : Bool). operationsBefore s k ++ cond done (vsyncOperations s k ++ by (vsyncBehind (vsyncNumbered k)) 0) (by (vsyncNumbered k) (length current + length (answer .records)))
     ≡ begunAt s (k + cond done (suc (completed more)) (completed more)) (cond done (underWayFrom [] more) (underWayFrom now more))) whole part (answer .complete)

@@ -16,7 +16,7 @@ use Rattle.base_format.specs.Player.{wavesBy}
 use Rattle.base_format.specs.State.{noWave}
 use Rattle.base_format.specs.Stream.{Stream}
 use Rattle.base_format.specs.WaveSources.{begun}
-use Rattle.base_format.specs.Writes.{Turn, first, nextTurn, writesOf, writesOfAll, operationsIn}
+use Rattle.base_format.specs.Writes.{WhichVsync, first, vsyncBehind, writesOf, writesOfAll, operationsIn}
 use Rattle.base_format.proofs.Writes.{writes-append}
 
 -- OPERATIONS
@@ -39,16 +39,16 @@ waves-append file (operation ∷ a) b waves = waves-append file a b (wavesOn fil
 
 -- which vsync it is, and the wave sources before it
 pub record Due : Type 0 where
-  pub turn : Turn
+  pub which : WhichVsync
   pub waves : List WaveSource
 
 -- what the vsync behind it begins with
 abbrev pub nextDue : List ℕ → Stream → Due → Due
-nextDue file s d = record { turn = nextTurn (d .turn); waves = wavesByAll file (operationsIn s (d .turn)) (d .waves) }
+nextDue file s d = record { which = vsyncBehind (d .which); waves = wavesByAll file (operationsIn s (d .which)) (d .waves) }
 
 -- what the first vsync of a start begins with
 abbrev pub startDue : Due
-startDue = record { turn = first; waves = replicate 16 noWave }
+startDue = record { which = first; waves = replicate 16 noWave }
 
 -- WRITES OF AN OPERATION
 
@@ -84,7 +84,7 @@ pub record Course : Type 0 where
   pub first : List WaveSource
 
 abbrev pub courseOf : Stream → Due → (later : List Operation) → Course
-courseOf s d later = record { all = operationsIn s (d .turn); later = later; first = d .waves }
+courseOf s d later = record { all = operationsIn s (d .which); later = later; first = d .waves }
 
 -- of the part that is playing some operations are left, of the first of which so many writes are done
 pub record Along (file : List ℕ) (s : Stream) (c : Course) (writes : ℕ) (operations : List Operation) (waves : List WaveSource) : Type 0 where
@@ -174,9 +174,9 @@ begun-half s writes (operation ∷ more) later fits =
 -- the wave sources are those when the vsync begins, changed by the operations that are begun
 pub along-begun : (file : List ℕ) (s : Stream) (d : Due) (later : List Operation) (writes n : ℕ) (operations : List Operation) (waves : List WaveSource)
     → (a : Along file s (courseOf s d later) writes operations waves) → Fits s writes operations → n ≡ length (writesOfAll (s .pools) (a .done)) + writes
-    → waves ≡ wavesByAll file (begun (s .pools) n (operationsIn s (d .turn))) (d .waves)
+    → waves ≡ wavesByAll file (begun (s .pools) n (operationsIn s (d .which))) (d .waves)
 along-begun file s d later writes n operations waves a fits e =
-    let those : begun (s .pools) n (operationsIn s (d .turn)) ≡ a .done ++ halfDone writes operations =
+    let those : begun (s .pools) n (operationsIn s (d .which)) ≡ a .done ++ halfDone writes operations =
     ap₂ (begun (s .pools)) e (a .is) ∙ begun-through s (a .done) (operations ++ later) writes (a .some) ∙ ap (λ (l : List Operation). a .done ++ l) (begun-half s writes operations later fits) in
     a .sources ∙ ap (λ (l : List Operation). wavesByAll file l (d .waves)) (sym those)
 
@@ -188,11 +188,11 @@ fitting s writes (operation ∷ more) fits = omega (arith, length-append (writes
 -- how many writes those are
 pub along-made : (file : List ℕ) (s : Stream) (d : Due) (later : List Operation) (writes n : ℕ) (operations : List Operation) (waves : List WaveSource)
     → (a : Along file s (courseOf s d later) writes operations waves) → Fits s writes operations
-    → n + (length (drop writes (writesOfAll (s .pools) operations)) + length (writesOfAll (s .pools) later)) ≡ length (writesOfAll (s .pools) (operationsIn s (d .turn)))
+    → n + (length (drop writes (writesOfAll (s .pools) operations)) + length (writesOfAll (s .pools) later)) ≡ length (writesOfAll (s .pools) (operationsIn s (d .which)))
     → n ≡ length (writesOfAll (s .pools) (a .done)) + writes
 along-made file s d later writes n operations waves a fits e =
     let wo : List Operation → List WriteRecord = writesOfAll (s .pools) in
-    let parted : length (wo (operationsIn s (d .turn))) ≡ length (wo (a .done)) + (length (wo operations) + length (wo later)) =
+    let parted : length (wo (operationsIn s (d .which))) ≡ length (wo (a .done)) + (length (wo operations) + length (wo later)) =
     ap (λ (l : List Operation). length (wo l)) (a .is) ∙ ap length (writes-append (s .pools) (a .done) (operations ++ later)) ∙ length-append (wo (a .done)) (wo (operations ++ later))
     ∙ ap (λ (m : ℕ). length (wo (a .done)) + m) (ap length (writes-append (s .pools) operations later) ∙ length-append (wo operations) (wo later)) in
     omega (arith, parted, length-drop writes (wo operations), fitting s writes operations fits)

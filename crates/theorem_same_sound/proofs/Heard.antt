@@ -12,7 +12,7 @@ use Rattle.base_format.specs.Compare.{coreWrites, played}
 use Rattle.base_format.specs.Listener.{answers, resting, recordsFrom, Listener, ending, heard, heardAll}
 use Rattle.base_format.specs.Player.{Played, call}
 use Rattle.base_format.specs.Stream.{Stream}
-use Rattle.base_format.specs.Writes.{nextTurn, writesIn}
+use Rattle.base_format.specs.Writes.{vsyncBehind, writesIn}
 use Rattle.base_format.proofs.Equal.{core-append, played-append}
 use Rattle.theorem_same_sound.proofs.Course.{Due, nextDue}
 use Rattle.theorem_same_sound.proofs.Phases.{Holds}
@@ -24,7 +24,7 @@ use Rattle.theorem_same_sound.proofs.Phases.{Holds}
 pub record Goes (file : List ℕ) (s : Stream) (d : Due) (rest : List WriteRecord) (room : ℕ) (answer : Checked Played) : Type 0 where
   pub next : StreamPlayer
   pub is : answer ≡ ok (record { records = take room rest; complete = leb (length rest) room; next = next })
-  pub holds : Holds file s next (cond (leb (length rest) room) (nextDue file s d) d) (cond (leb (length rest) room) (writesIn s (nextTurn (d .turn))) (drop room rest))
+  pub holds : Holds file s next (cond (leb (length rest) room) (nextDue file s d) d) (cond (leb (length rest) room) (writesIn s (vsyncBehind (d .which))) (drop room rest))
 
 -- a finished state answers whatever file it is lent
 pub finished-any : (state : StreamPlayer) (file file′ : List ℕ) (room : ℕ) → state .progress .finished ≡ true → call state file room ≡ call state file′ room

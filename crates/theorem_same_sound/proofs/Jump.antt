@@ -20,7 +20,7 @@ use Rattle.base_format.specs.Index.{framePlace, indexOf}
 use Rattle.base_format.specs.Jump.{recordsOther, closingPast, jumpBelongs, beforeFrame, noFrame, jumped}
 use Rattle.base_format.specs.Player.{belongs}
 use Rattle.base_format.specs.State.{partOf, unplayed, playerOf, refusedPlayer, moved}
-use Rattle.base_format.specs.Steps.{turnOf}
+use Rattle.base_format.specs.Steps.{vsyncOfFrame}
 use Rattle.base_format.specs.Stream.{Stream, read}
 use Rattle.base_format.specs.Writes.{later, frameWrites, closing, writesIn, usesSi22}
 use Rattle.base_format.proofs.Accepted.{Accepted, HeaderOk, accepted, header-ok}
@@ -78,7 +78,7 @@ module _ (file : List ℕ) (s : Stream) (e : read file ≡ ok s) where
 
   -- what the vsync behind a jump begins with: the wave sources stay
   abbrev pub jumpDue : StreamPlayer → (frame : ℕ) → Due
-  jumpDue state frame = record { turn = turnOf frame; waves = state .progress .«wave_sources» }
+  jumpDue state frame = record { which = vsyncOfFrame frame; waves = state .progress .«wave_sources» }
 
   -- that frame and the later ones are ahead, from the place that the jump sets
   ahead : (frame : ℕ) → frame < length (s .frames) → (more : ℕ) × Ahead file s frame frame (suc more) (framePlace s frame)
@@ -89,7 +89,7 @@ module _ (file : List ℕ) (s : Stream) (e : read file ≡ ok s) where
 
   -- a state that is reached by a jump holds, before that frame's vsync
   frame-holds : (state : StreamPlayer) (d : Due) (rest : List WriteRecord) → Holds file s state d rest → (frame : ℕ) → frame < length (s .frames)
-      → Holds file s (moved state (beforeFrame s frame (state .progress))) (record { turn = later frame; waves = state .progress .«wave_sources» }) (writesIn s (later frame))
+      → Holds file s (moved state (beforeFrame s frame (state .progress))) (record { which = later frame; waves = state .progress .«wave_sources» }) (writesIn s (later frame))
   unfolding playerOf
   frame-holds state d rest holds frame less =
       let found = ahead frame less in
@@ -105,7 +105,7 @@ module _ (file : List ℕ) (s : Stream) (e : read file ≡ ok s) where
           initialized = refl;
           more = suc (found .0);
           number = frame;
-          turn = refl;
+          which = refl;
           ahead = found .1;
           sources = refl;
           is = refl;
@@ -119,11 +119,11 @@ module _ (file : List ℕ) (s : Stream) (e : read file ≡ ok s) where
       omega (arith, positive frame (both .0), ltb-false (length (s .frames)) frame (both .1))
 
   pub jump-holds : (state : StreamPlayer) (d : Due) (rest : List WriteRecord) → Holds file s state d rest → (frame : ℕ) → noFrame (length (s .frames)) frame ≡ false
-      → Holds file s (moved state (beforeFrame s (frame - 1) (state .progress))) (jumpDue state frame) (writesIn s (turnOf frame))
+      → Holds file s (moved state (beforeFrame s (frame - 1) (state .progress))) (jumpDue state frame) (writesIn s (vsyncOfFrame frame))
   jump-holds state d rest holds frame h = frame-holds state d rest holds (frame - 1) (frame-exists frame h)
 
   -- the vsync behind it plays that frame, and no opening
-  pub jump-writes : (frame : ℕ) → noFrame (length (s .frames)) frame ≡ false → writesIn s (turnOf frame) ≡ frameWrites s (frame - 1)
+  pub jump-writes : (frame : ℕ) → noFrame (length (s .frames)) frame ≡ false → writesIn s (vsyncOfFrame frame) ≡ frameWrites s (frame - 1)
   jump-writes frame h =
       let found = ahead (frame - 1) (frame-exists frame h) in
       writes-frame file s acc (frame - 1) (frame - 1) (found .0) (framePlace s (frame - 1)) (found .1)

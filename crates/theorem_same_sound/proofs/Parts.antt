@@ -17,7 +17,7 @@ use Rattle.base_format.specs.Header.{headerOf}
 use Rattle.base_format.specs.Player.{Played, placed, operationsLeft, openingBegun, frameStart, frameBegun, frameEnded, closingAt, playFrame, playOpening, playClosing}
 use Rattle.base_format.specs.State.{playerOf}
 use Rattle.base_format.specs.Stream.{Stream, openingLimit}
-use Rattle.base_format.specs.Writes.{Turn, first, later, nextTurn, writesOfAll, openingWrites, frameWrites, closing, writesIn, operationsIn}
+use Rattle.base_format.specs.Writes.{WhichVsync, first, later, vsyncBehind, writesOfAll, openingWrites, frameWrites, closing, writesIn, operationsIn}
 use Rattle.base_format.proofs.Accepted.{Accepted}
 use Rattle.theorem_same_sound.proofs.Course.{Due, nextDue, startDue, courseOf, Along, along-later, along-whole}
 use Rattle.theorem_same_sound.proofs.Gather.{Took, gather, at-start, at-end, done-is, onward-to, take-past, drop-past}
@@ -29,7 +29,7 @@ pub record Plays (file : List ℕ) (s : Stream) (d : Due) (rest : List WriteReco
   pub next : Progress
   pub is : answer ≡ ok (record { records = take room rest; complete = leb (length rest) room; next = playerOf file s next })
   pub inside : Inside file next
-  pub phase : Phase file s next (cond (leb (length rest) room) (nextDue file s d) d) (cond (leb (length rest) room) (writesIn s (nextTurn (d .turn))) (drop room rest))
+  pub phase : Phase file s next (cond (leb (length rest) room) (nextDue file s d) d) (cond (leb (length rest) room) (writesIn s (vsyncBehind (d .which))) (drop room rest))
 
 pub played-is : {a b : List WriteRecord} {c d : Bool} (next : StreamPlayer) → a ≡ b → c ≡ d
     → _≡_ {A = Checked Played} (ok (record { records = a; complete = c; next = next })) (ok (record { records = b; complete = d; next = next }))
@@ -51,7 +51,7 @@ module _ (file : List ℕ) (s : Stream) (acc : Accepted file (headerOf file) s) 
       → (took : Took file s q (length file) (inFrame .end) (inFrame .left) room p rest (courseOf s d [])) (done : Bool) → leb (length rest) room ≡ done
       → Inside file (cond done (frameEnded (placed p (took .cursor) (took .index) (took .writes) (took .waves))) (placed p (took .cursor) (took .index) (took .writes) (took .waves)))
       × Phase file s (cond done (frameEnded (placed p (took .cursor) (took .index) (took .writes) (took .waves))) (placed p (took .cursor) (took .index) (took .writes) (took .waves)))
-      (cond done (nextDue file s d) d) (cond done (writesIn s (nextTurn (d .turn))) (drop room rest))
+      (cond done (nextDue file s d) d) (cond done (writesIn s (vsyncBehind (d .which))) (drop room rest))
   frame-settles q p d rest room inFrame inside took true e =
       let within = frames-onward file s (inFrame .more) (inFrame .end) _ (length file) (inFrame .ahead .later) in
       let none : took .left′ ≡ 0 = eqb-true _ _ (done-is file s (length file) (inFrame .end) (took .left′) (took .cursor) (took .writes) room rest (took .waves) (courseOf s d []) (took .at) ∙ e) in
@@ -63,7 +63,7 @@ module _ (file : List ℕ) (s : Stream) (acc : Accepted file (headerOf file) s) 
           initialized = refl;
           more = inFrame .more;
           number = inFrame .number;
-          turn = inFrame .turn;
+          which = inFrame .which;
           ahead = rw (ended .0) (inFrame .ahead);
           sources = along-whole file s d (took .writes) (took .waves) (ended .1);
           is = refl;
@@ -83,7 +83,7 @@ module _ (file : List ℕ) (s : Stream) (acc : Accepted file (headerOf file) s) 
           whole = inFrame .whole;
           counted = took .counted ∙ inFrame .counted;
           number = inFrame .number;
-          turn = inFrame .turn;
+          which = inFrame .which;
           ahead = inFrame .ahead;
         }),
       )
@@ -105,10 +105,10 @@ module _ (file : List ℕ) (s : Stream) (acc : Accepted file (headerOf file) s) 
       }
 
   -- a frame that begins
-  begun-frame : (d : Due) (k frame more cursor : ℕ) → nextTurn (d .turn) ≡ later (suc k) → Begins file s k frame more cursor → (p : Progress)
-      → Along file s (courseOf s d []) 0 (getD (s .frames) frame []) (p .«wave_sources») → writesIn s (d .turn) ≡ writesOfAll (s .pools) (operationsIn s (d .turn))
+  begun-frame : (d : Due) (k frame more cursor : ℕ) → vsyncBehind (d .which) ≡ later (suc k) → Begins file s k frame more cursor → (p : Progress)
+      → Along file s (courseOf s d []) 0 (getD (s .frames) frame []) (p .«wave_sources») → writesIn s (d .which) ≡ writesOfAll (s .pools) (operationsIn s (d .which))
       → InFrame file s (frameStart file cursor frame p) d (frameWrites s frame) × Inside file (frameStart file cursor frame p)
-  begun-frame d k frame more cursor turn begun p along whole = (
+  begun-frame d k frame more cursor which begun p along whole = (
     record {
       part = refl;
       going = refl;
@@ -119,19 +119,19 @@ module _ (file : List ℕ) (s : Stream) (acc : Accepted file (headerOf file) s) 
       whole = whole;
       counted = omega arith;
       number = suc k;
-      turn = turn;
+      which = which;
       ahead = begun .ahead;
     },
     record { cursor = begun .within; frames = omega (arith, begun .ahead .counted); operations = omega arith },
   )
 
-  pub begin-plays : (p : Progress) (d : Due) (k frame more cursor room : ℕ) → d .turn ≡ later k → Ahead file s k frame (suc more) cursor → p .«wave_sources» ≡ d .waves
-      → Plays file s d (writesIn s (d .turn)) room (frameBegun file cursor frame p >>= playFrame (playerOf file s p) file room)
-  begin-plays p d k frame more cursor room turn ahead sources =
+  pub begin-plays : (p : Progress) (d : Due) (k frame more cursor room : ℕ) → d .which ≡ later k → Ahead file s k frame (suc more) cursor → p .«wave_sources» ≡ d .waves
+      → Plays file s d (writesIn s (d .which)) room (frameBegun file cursor frame p >>= playFrame (playerOf file s p) file room)
+  begin-plays p d k frame more cursor room which ahead sources =
       let begun = begins file s acc k frame more cursor ahead in
-      let along = frame-along file s acc d k frame more cursor turn ahead (p .«wave_sources») sources in
-      let now = begun-frame d k frame more cursor (ap nextTurn turn) begun p along (frame-whole file s acc d k frame more cursor turn ahead) in
-      rw (begun .counts p, due-frame file s acc d k frame more cursor turn ahead) (frame-plays p (frameStart file cursor frame p) d (frameWrites s frame) room (now .0) (now .1))
+      let along = frame-along file s acc d k frame more cursor which ahead (p .«wave_sources») sources in
+      let now = begun-frame d k frame more cursor (ap vsyncBehind which) begun p along (frame-whole file s acc d k frame more cursor which ahead) in
+      rw (begun .counts p, due-frame file s acc d k frame more cursor which ahead) (frame-plays p (frameStart file cursor frame p) d (frameWrites s frame) room (now .0) (now .1))
 
   -- THE OPENING
 
@@ -171,7 +171,7 @@ module _ (file : List ℕ) (s : Stream) (acc : Accepted file (headerOf file) s) 
           pending = drop room pending;
           at = took .at;
           counted = took .counted ∙ inOpening .counted;
-          turn = inOpening .turn;
+          which = inOpening .which;
           is = over;
         }));
       }
@@ -191,8 +191,8 @@ module _ (file : List ℕ) (s : Stream) (acc : Accepted file (headerOf file) s) 
       let begun = begins file s acc 0 0 (one-frame .0) (headerOf file .«frame_start») (subst (λ (n : ℕ). Ahead file s 0 0 n (headerOf file .«frame_start»)) (one-frame .1) (first-ahead file s acc)) in
       let none : took .left′ ≡ 0 = eqb-true _ _ (done-is file s _ _ (took .left′) (took .cursor) (took .writes) room pending (took .waves) (courseOf s d (getD (s .frames) 0 [])) (took .at) ∙ e) in
       let ended = at-end file s _ _ (took .cursor) (took .writes) (drop room pending) (took .waves) (courseOf s d (getD (s .frames) 0 [])) (rw none at (took .at)) in
-      let now = begun-frame d 0 0 (one-frame .0) (headerOf file .«frame_start») (ap nextTurn (inOpening .turn)) begun gathering
-      (along-later file s d (getD (s .frames) 0 []) (took .writes) (took .waves) (ended .1)) (rw (inOpening .turn) (first-whole s)) in
+      let now = begun-frame d 0 0 (one-frame .0) (headerOf file .«frame_start») (ap vsyncBehind (inOpening .which)) begun gathering
+      (along-later file s d (getD (s .frames) 0 []) (took .writes) (took .waves) (ended .1)) (rw (inOpening .which) (first-whole s)) in
       let plays = frame-plays q (frameStart file (headerOf file .«frame_start») 0 gathering) d (frameWrites s 0) (room - length pending) (now .0) (now .1) in
       let total : length rest ≡ length pending + length (frameWrites s 0) = ap length (inOpening .is) ∙ length-append pending (frameWrites s 0) in
       let whole : leb (length (frameWrites s 0)) (room - length pending) ≡ leb (length rest) room = leb-shift (length pending) _ room enough ∙ ap (λ (n : ℕ). leb n room) (sym total) in
@@ -232,36 +232,36 @@ module _ (file : List ℕ) (s : Stream) (acc : Accepted file (headerOf file) s) 
             (p .«wave_sources») (courseOf s startDue (getD (s .frames) 0 []))
             (first-along file s startDue refl (p .«wave_sources») sources);
         counted = omega arith;
-        turn = refl;
+        which = refl;
         is = refl;
       }) (record { cursor = omega (arith, acc .opening-first, acc .first-within); frames = omega arith; operations = omega arith })
 
   -- THE CLOSING WRITES
 
-  closing-settles : (p : Progress) (d : Due) (room : ℕ) → s .repeat ≡ false → d .turn ≡ later (length (s .frames)) → p .«write_index» ≤ length (closing s)
+  closing-settles : (p : Progress) (d : Due) (room : ℕ) → s .repeat ≡ false → d .which ≡ later (length (s .frames)) → p .«write_index» ≤ length (closing s)
       → p .«wave_sources» ≡ d .waves → (done : Bool) → leb (length (drop (p .«write_index») (closing s))) room ≡ done
       → Phase file s (closingAt (p .«write_index» + length (take room (drop (p .«write_index») (closing s)))) done p) (cond done (nextDue file s d) d)
-      (cond done (writesIn s (nextTurn (d .turn))) (drop room (drop (p .«write_index») (closing s))))
-  closing-settles p d room once turn within sources true e =
+      (cond done (writesIn s (vsyncBehind (d .which))) (drop room (drop (p .«write_index») (closing s))))
+  closing-settles p d room once which within sources true e =
       let taken = length-take room (drop (p .«write_index») (closing s)) in
       at-over (record {
         over = refl;
         once = once;
         number = suc (length (s .frames));
-        turn = ap nextTurn turn;
+        which = ap vsyncBehind which;
         last = omega arith;
         within = omega (arith, taken, length-drop (p .«write_index») (closing s));
-        sources = sources ∙ sym (waves-still file s once d (length (s .frames)) turn (omega arith));
-        is = ap (λ (t : Turn). writesIn s (nextTurn t)) turn ∙ writes-over s once (suc (length (s .frames))) (omega arith);
+        sources = sources ∙ sym (waves-still file s once d (length (s .frames)) which (omega arith));
+        is = ap (λ (t : WhichVsync). writesIn s (vsyncBehind t)) which ∙ writes-over s once (suc (length (s .frames))) (omega arith);
       })
-  closing-settles p d room once turn within sources false e =
+  closing-settles p d room once which within sources false e =
       let long : room < length (drop (p .«write_index») (closing s)) = leb-false _ _ e in
       let taken : length (take room (drop (p .«write_index») (closing s))) ≡ room = omega (arith, length-take room (drop (p .«write_index») (closing s))) in
       at-closing (record {
         part = refl;
         going = refl;
         once = once;
-        turn = turn;
+        which = which;
         within = omega (arith, length-drop (p .«write_index») (closing s));
         sources = sources;
         is = drop-drop room (p .«write_index») (closing s) ∙ ap (λ (n : ℕ). drop (p .«write_index» + n) (closing s)) (sym taken);
@@ -274,5 +274,5 @@ module _ (file : List ℕ) (s : Stream) (acc : Accepted file (headerOf file) s) 
         next = closingAt (p .«write_index» + length (take room (drop (p .«write_index») (closing s)))) (leb (length (drop (p .«write_index») (closing s))) room) p;
         is = rw (le-ltb (length (closing s)) (p .«write_index») (inClosing .within));
         inside = record { cursor = inside .cursor; frames = inside .frames; operations = omega arith };
-        phase = closing-settles p d room (inClosing .once) (inClosing .turn) (inClosing .within) (inClosing .sources) (leb (length (drop (p .«write_index») (closing s))) room) refl;
+        phase = closing-settles p d room (inClosing .once) (inClosing .which) (inClosing .within) (inClosing .sources) (leb (length (drop (p .«write_index») (closing s))) room) refl;
       })

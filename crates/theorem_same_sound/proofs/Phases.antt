@@ -21,7 +21,7 @@ use Rattle.base_format.specs.Header.{headerOf}
 use Rattle.base_format.specs.Player.{frameStart, frameBegun, belongs}
 use Rattle.base_format.specs.State.{partOf, unplayed, tableOf, playerOf}
 use Rattle.base_format.specs.Stream.{Stream, operationsFrom, framesFrom, openingLimit}
-use Rattle.base_format.specs.Writes.{first, later, nextTurn, writesOfAll, frameWrites, closing, writesIn, operationsIn}
+use Rattle.base_format.specs.Writes.{first, later, vsyncBehind, writesOfAll, frameWrites, closing, writesIn, operationsIn}
 use Rattle.base_format.proofs.Accepted.{Accepted, HeaderOk}
 use Rattle.base_format.proofs.Cards.{cards-count}
 use Rattle.base_format.proofs.Checks.{ok-is}
@@ -54,7 +54,7 @@ pub record InOpening (file : List ℕ) (s : Stream) (p : Progress) (d : Due) (re
   pub pending : List WriteRecord
   pub at : At file s (openingLimit (headerOf file) file) (headerOf file .«frame_start») left (p .cursor) (p .«write_index») pending (p .«wave_sources») (courseOf s d (getD (s .frames) 0 []))
   pub counted : p .«operation_index» + left ≡ p .«operation_count»
-  pub turn : d .turn ≡ first
+  pub which : d .which ≡ first
   pub is : rest ≡ pending ++ frameWrites s 0
 
 pub record InFrame (file : List ℕ) (s : Stream) (p : Progress) (d : Due) (rest : List WriteRecord) : Type 0 where
@@ -64,10 +64,10 @@ pub record InFrame (file : List ℕ) (s : Stream) (p : Progress) (d : Due) (rest
   pub end : ℕ
   pub more : ℕ
   pub at : At file s (length file) end left (p .cursor) (p .«write_index») rest (p .«wave_sources») (courseOf s d [])
-  pub whole : writesIn s (d .turn) ≡ writesOfAll (s .pools) (operationsIn s (d .turn))
+  pub whole : writesIn s (d .which) ≡ writesOfAll (s .pools) (operationsIn s (d .which))
   pub counted : p .«operation_index» + left ≡ p .«operation_count»
   pub number : ℕ
-  pub turn : nextTurn (d .turn) ≡ later number
+  pub which : vsyncBehind (d .which) ≡ later number
   pub ahead : Ahead file s number (p .«frame_index») more end
 
 pub record BetweenFrames (file : List ℕ) (s : Stream) (p : Progress) (d : Due) (rest : List WriteRecord) : Type 0 where
@@ -76,16 +76,16 @@ pub record BetweenFrames (file : List ℕ) (s : Stream) (p : Progress) (d : Due)
   pub initialized : p .initialized ≡ true
   pub more : ℕ
   pub number : ℕ
-  pub turn : d .turn ≡ later number
+  pub which : d .which ≡ later number
   pub ahead : Ahead file s number (p .«frame_index») more (p .cursor)
   pub sources : p .«wave_sources» ≡ d .waves
-  pub is : rest ≡ writesIn s (d .turn)
+  pub is : rest ≡ writesIn s (d .which)
 
 pub record InClosing (file : List ℕ) (s : Stream) (p : Progress) (d : Due) (rest : List WriteRecord) : Type 0 where
   pub part : partOf (p .part) ≡ Closing
   pub going : p .finished ≡ false
   pub once : s .repeat ≡ false
-  pub turn : d .turn ≡ later (length (s .frames))
+  pub which : d .which ≡ later (length (s .frames))
   pub within : p .«write_index» ≤ length (closing s)
   pub sources : p .«wave_sources» ≡ d .waves
   pub is : rest ≡ drop (p .«write_index») (closing s)
@@ -94,7 +94,7 @@ pub record Over (file : List ℕ) (s : Stream) (p : Progress) (d : Due) (rest : 
   pub over : p .finished ≡ true
   pub once : s .repeat ≡ false
   pub number : ℕ
-  pub turn : d .turn ≡ later number
+  pub which : d .which ≡ later number
   pub last : length (s .frames) < number
   pub within : p .«write_index» ≤ length (closing s)
   pub sources : p .«wave_sources» ≡ d .waves
@@ -219,9 +219,9 @@ again-ahead file s acc repeats k frame cursor ahead =
 -- THE WRITES OF A VSYNC
 
 -- a vsync that plays a frame and no opening: which one
-frame-turn : {A : Type 0} (file : List ℕ) (s : Stream) → Accepted file (headerOf file) s → (k frame more cursor : ℕ) → Ahead file s k frame (suc more) cursor
+frame-which : {A : Type 0} (file : List ℕ) (s : Stream) → Accepted file (headerOf file) s → (k frame more cursor : ℕ) → Ahead file s k frame (suc more) cursor
     → (f : ℕ → A) (other : A) → cond (s .repeat) (f (k % length (s .frames))) (cond (ltb k (length (s .frames))) (f k) other) ≡ f frame
-frame-turn {A} file s acc k frame more cursor ahead f other = go (s .repeat) refl
+frame-which {A} file s acc k frame more cursor ahead f other = go (s .repeat) refl
   where
     n : length (s .frames) ≡ headerOf file .«frame_count»
     n = frame-count file s acc
@@ -231,43 +231,43 @@ frame-turn {A} file s acc k frame more cursor ahead f other = go (s .repeat) ref
 
     go : (b : Bool) → s .repeat ≡ b → cond b (f (k % length (s .frames))) (cond (ltb k (length (s .frames))) (f k) other) ≡ f frame
     go true e =
-        let turn : k ≡ ahead .passes * length (s .frames) + frame = ahead .vsyncs ∙ ap (λ (m : ℕ). ahead .passes * m + frame) (sym n) in
-        let turned : k % length (s .frames) ≡ frame = ap (λ (m : ℕ). m % length (s .frames)) turn ∙ mul-add-mod-self-right (ahead .passes) (length (s .frames)) frame ∙ mod-eq-of-lt less in
-        ap f turned
+        let number : k ≡ ahead .passes * length (s .frames) + frame = ahead .vsyncs ∙ ap (λ (m : ℕ). ahead .passes * m + frame) (sym n) in
+        let found : k % length (s .frames) ≡ frame = ap (λ (m : ℕ). m % length (s .frames)) number ∙ mul-add-mod-self-right (ahead .passes) (length (s .frames)) frame ∙ mod-eq-of-lt less in
+        ap f found
     go false e =
-        let turn : k ≡ 0 * headerOf file .«frame_count» + frame = ahead .vsyncs ∙ ap (λ (m : ℕ). m * headerOf file .«frame_count» + frame) (ahead .once e) in
+        let number : k ≡ 0 * headerOf file .«frame_count» + frame = ahead .vsyncs ∙ ap (λ (m : ℕ). m * headerOf file .«frame_count» + frame) (ahead .once e) in
         let same : k ≡ frame = omega arith in
         rw (same, lt-ltb frame (length (s .frames)) less)
 
 pub writes-frame : (file : List ℕ) (s : Stream) → Accepted file (headerOf file) s → (k frame more cursor : ℕ) → Ahead file s k frame (suc more) cursor → writesIn s (later k) ≡ frameWrites s frame
 unfolding writesIn
-writes-frame file s acc k frame more cursor ahead = frame-turn file s acc k frame more cursor ahead (frameWrites s) _
+writes-frame file s acc k frame more cursor ahead = frame-which file s acc k frame more cursor ahead (frameWrites s) _
 
 -- its operations
 operations-frame : (file : List ℕ) (s : Stream) → Accepted file (headerOf file) s → (k frame more cursor : ℕ) → Ahead file s k frame (suc more) cursor
     → operationsIn s (later k) ≡ getD (s .frames) frame []
 unfolding operationsIn
-operations-frame file s acc k frame more cursor ahead = frame-turn file s acc k frame more cursor ahead (λ (n : ℕ). getD (s .frames) n []) []
+operations-frame file s acc k frame more cursor ahead = frame-which file s acc k frame more cursor ahead (λ (n : ℕ). getD (s .frames) n []) []
 
-module _ (file : List ℕ) (s : Stream) (acc : Accepted file (headerOf file) s) (d : Due) (k frame more cursor : ℕ) (turn : d .turn ≡ later k) (ahead : Ahead file s k frame (suc more) cursor) where
-  pub due-frame : writesIn s (d .turn) ≡ frameWrites s frame
-  due-frame = ap (writesIn s) turn ∙ writes-frame file s acc k frame more cursor ahead
+module _ (file : List ℕ) (s : Stream) (acc : Accepted file (headerOf file) s) (d : Due) (k frame more cursor : ℕ) (which : d .which ≡ later k) (ahead : Ahead file s k frame (suc more) cursor) where
+  pub due-frame : writesIn s (d .which) ≡ frameWrites s frame
+  due-frame = ap (writesIn s) which ∙ writes-frame file s acc k frame more cursor ahead
 
-  due-operations : operationsIn s (d .turn) ≡ getD (s .frames) frame []
-  due-operations = ap (operationsIn s) turn ∙ operations-frame file s acc k frame more cursor ahead
+  due-operations : operationsIn s (d .which) ≡ getD (s .frames) frame []
+  due-operations = ap (operationsIn s) which ∙ operations-frame file s acc k frame more cursor ahead
 
   -- they begin with the wave sources before it, and their writes are the vsync's
   pub frame-along : (waves : List WaveSource) → waves ≡ d .waves → Along file s (courseOf s d []) 0 (getD (s .frames) frame []) waves
   frame-along waves e = along-first file s (courseOf s d []) (getD (s .frames) frame []) waves (due-operations ∙ sym (append-nil (getD (s .frames) frame []))) e
 
-  pub frame-whole : writesIn s (d .turn) ≡ writesOfAll (s .pools) (operationsIn s (d .turn))
+  pub frame-whole : writesIn s (d .which) ≡ writesOfAll (s .pools) (operationsIn s (d .which))
   frame-whole = due-frame ∙ ap (writesOfAll (s .pools)) (sym due-operations)
 
 -- the first vsync: the opening and frame 1
-pub first-along : (file : List ℕ) (s : Stream) (d : Due) → d .turn ≡ first → (waves : List WaveSource) → waves ≡ d .waves
+pub first-along : (file : List ℕ) (s : Stream) (d : Due) → d .which ≡ first → (waves : List WaveSource) → waves ≡ d .waves
     → Along file s (courseOf s d (getD (s .frames) 0 [])) 0 (s .opening) waves
 unfolding operationsIn
-first-along file s d turn waves e = along-first file s (courseOf s d (getD (s .frames) 0 [])) (s .opening) waves (ap (operationsIn s) turn) e
+first-along file s d which waves e = along-first file s (courseOf s d (getD (s .frames) 0 [])) (s .opening) waves (ap (operationsIn s) which) e
 
 pub first-whole : (s : Stream) → writesIn s first ≡ writesOfAll (s .pools) (operationsIn s first)
 unfolding writesIn operationsIn
@@ -278,9 +278,9 @@ pub no-operations : (s : Stream) → s .repeat ≡ false → (k : ℕ) → lengt
 unfolding operationsIn
 no-operations s once k after = rw (once, le-ltb k (length (s .frames)) after)
 
-pub waves-still : (file : List ℕ) (s : Stream) → s .repeat ≡ false → (d : Due) (k : ℕ) → d .turn ≡ later k → length (s .frames) ≤ k → nextDue file s d .waves ≡ d .waves
+pub waves-still : (file : List ℕ) (s : Stream) → s .repeat ≡ false → (d : Due) (k : ℕ) → d .which ≡ later k → length (s .frames) ≤ k → nextDue file s d .waves ≡ d .waves
 unfolding wavesByAll
-waves-still file s once d k turn after = rw (turn, no-operations s once k after)
+waves-still file s once d k which after = rw (which, no-operations s once k after)
 
 -- and the one after the last frame of a stream that does not repeat
 pub writes-closing : (s : Stream) → s .repeat ≡ false → (k : ℕ) → k ≡ length (s .frames) → writesIn s (later k) ≡ closing s

@@ -16,12 +16,12 @@ use Rattle.base_format.specs.Listener.{Call, answers, reached, AllAdmissible, c
 use Rattle.base_format.specs.Player.{Played, call}
 use Rattle.base_format.specs.Promises.{OwnFilePlays, EachVsync, CallsOfVsync, WaveSourceIs, BehindJump}
 use Rattle.base_format.specs.State.{started, moved, waveSource}
-use Rattle.base_format.specs.Steps.{Answer, ofCall, stepAnswers, reachedBy, AllAdmissibleSteps, completedAllBegun, stepRecordsFrom, turnOf, completedFrom, dueTurn, writesInAll}
+use Rattle.base_format.specs.Steps.{Answer, ofCall, stepAnswers, reachedBy, AllAdmissibleSteps, completedAllBegun, stepRecordsFrom, vsyncOfFrame, completedFrom, dueVsync, writesInAll}
 use Rattle.base_format.specs.Stream.{Stream, read}
 use Rattle.base_format.specs.WaveSources.{lastCopied, operationsBefore, waveSourceAt, waveSourceBehind}
 use Rattle.base_format.specs.Writes.{first, writesIn, vsync}
 use Rattle.base_format.proofs.Checks.{passed-test, ok-is}
-use Rattle.theorem_same_sound.proofs.Calls.{onlyCalls, answers-of, reached-of, admissible-of, rest-of, records-of, turns-of, writes-of, due-of, begun-of}
+use Rattle.theorem_same_sound.proofs.Calls.{onlyCalls, answers-of, reached-of, admissible-of, rest-of, records-of, vsyncs-of, writes-of, due-of, begun-of}
 use Rattle.theorem_same_sound.proofs.Jump.{jumpDue, jump-holds, jump-writes}
 use Rattle.theorem_same_sound.proofs.Rounds.{calls-of-vsync-of-steps}
 use Rattle.theorem_same_sound.proofs.Sources.{wave-source-of-steps}
@@ -45,16 +45,16 @@ module _ (file : List ℕ) (s : Stream) (reads : read file ≡ ok s) (calls : Li
   records-are : vsyncRecords told ≡ vsyncsFrom s 0 (completed told)
   records-are =
       sym (records-of [] told) ∙ ap (stepRecordsFrom []) (sym is) ∙ each-vsync-of-steps file s reads (onlyCalls calls) steps-admissible
-      ∙ ap (λ (t : List Answer). writesInAll s (completedFrom first t)) is ∙ ap (writesInAll s) (turns-of first told) ∙ writes-of s 0 (completed told)
+      ∙ ap (λ (t : List Answer). writesInAll s (completedFrom first t)) is ∙ ap (writesInAll s) (vsyncs-of first told) ∙ writes-of s 0 (completed told)
 
   never-refused : (room : ℕ) → (answer : Played) × (call (reached (started file) calls) file room ≡ ok answer)
   never-refused room =
       let plays = own-file-plays-on file s reads (onlyCalls calls) steps-admissible room in
       (plays .0, ap (λ (state : StreamPlayer). call state file room) (sym state-is) ∙ plays .1)
 
-  due-is : writesIn s (dueTurn (stepAnswers (started file) (onlyCalls calls))) ≡ vsync s (completed told)
+  due-is : writesIn s (dueVsync (stepAnswers (started file) (onlyCalls calls))) ≡ vsync s (completed told)
   unfolding vsync
-  due-is = ap (λ (t : List Answer). writesIn s (dueTurn t)) is ∙ ap (writesIn s) (due-of 0 told) ∙ ap (vsync s) (zero-add (completed told))
+  due-is = ap (λ (t : List Answer). writesIn s (dueVsync t)) is ∙ ap (writesIn s) (due-of 0 told) ∙ ap (vsync s) (zero-add (completed told))
 
   rounds : begunNoFurther told ≡ true → (room : ℕ) → 0 < room → let needed = callsFor (length (vsync s (completed told))) room in
       (completed (answers (reached (started file) calls) (sameCalls file room needed)) ≡ 1)
@@ -105,10 +105,10 @@ behind-jump file s reads steps admissible index frame next e =
     let holds = jump-holds file s reads state _ (left .rest′) (left .holds) frame (to .known) in (
       jump-writes file s reads frame (to .known),
       λ calls admissible′.
-          let lands = left-by file s reads (onlyCalls calls) true next (jumpDue file s reads state frame) (writesIn s (turnOf frame)) []
+          let lands = left-by file s reads (onlyCalls calls) true next (jumpDue file s reads state frame) (writesIn s (vsyncOfFrame frame)) []
           (rw (to .is) at holds) (admissible-of file next calls admissible′) in
           let told = answers next calls in
           sym (records-of [] told) ∙ ap (stepRecordsFrom []) (sym (answers-of next calls)) ∙ lands .records refl
-          ∙ ap (λ (t : List Answer). writesInAll s (completedFrom (turnOf frame) t)) (answers-of next calls)
-          ∙ ap (writesInAll s) (turns-of (turnOf frame) told),
+          ∙ ap (λ (t : List Answer). writesInAll s (completedFrom (vsyncOfFrame frame) t)) (answers-of next calls)
+          ∙ ap (writesInAll s) (vsyncs-of (vsyncOfFrame frame) told),
     )

@@ -15,9 +15,9 @@ use Rattle.base_format.specs.Listener.{Call, after, answers, sameCalls, complet
 use Rattle.base_format.specs.Player.{Played}
 use Rattle.base_format.specs.Promises.{CallsOfVsyncOfSteps}
 use Rattle.base_format.specs.State.{started}
-use Rattle.base_format.specs.Steps.{Step, stepAnswers, reachedBy, AllAdmissibleSteps, completedAllBegun, dueTurn}
+use Rattle.base_format.specs.Steps.{Step, stepAnswers, reachedBy, AllAdmissibleSteps, completedAllBegun, dueVsync}
 use Rattle.base_format.specs.Stream.{Stream, read}
-use Rattle.base_format.specs.Writes.{Turn, writesIn}
+use Rattle.base_format.specs.Writes.{WhichVsync, writesIn}
 use Rattle.theorem_same_sound.proofs.Course.{Due}
 use Rattle.theorem_same_sound.proofs.Phases.{Holds}
 use Rattle.theorem_same_sound.proofs.Steps.{reached-rests}
@@ -124,10 +124,11 @@ module _ (file : List ℕ) (s : Stream) (accepted : read file ≡ ok s) where
       fewer (suc count) less = none-yet (suc count) room state d rest holds (rounded .less (suc count) (omega arith) less)
 
   rounds : (steps : List Step) → AllAdmissibleSteps file (started file) steps → completedAllBegun (stepAnswers (started file) steps) ≡ true → (room : ℕ) → 0 < room
-      → Needed (reachedBy (started file) steps) (length (writesIn s (dueTurn (stepAnswers (started file) steps)))) room
+      → Needed (reachedBy (started file) steps) (length (writesIn s (dueVsync (stepAnswers (started file) steps)))) room
   rounds steps admissible rests room some =
       let found = reached-rests file s accepted steps admissible rests in
-      subst (λ (turn : Turn). Needed (reachedBy (started file) steps) (length (writesIn s turn)) room) (found .1 .0) (needed (reachedBy (started file) steps) (found .0) _ (found .1 .1) room some)
+      subst (λ (which : WhichVsync). Needed (reachedBy (started file) steps) (length (writesIn s which)) room) (found .1 .0)
+      (needed (reachedBy (started file) steps) (found .0) _ (found .1 .1) room some)
 
 pub calls-of-vsync-of-steps : CallsOfVsyncOfSteps
 calls-of-vsync-of-steps = rounds

@@ -11,16 +11,16 @@ use Rattle.base_format.specs.Player.{Played}
 use Rattle.base_format.specs.Promises.{Together, Demand3, TogetherWithJumps, Demand3WithJumps}
 use Rattle.base_format.specs.State.{started}
 use Rattle.base_format.specs.Steps.{Step, Answer, ofCall, ofJump, stepAnswers, AllAdmissibleSteps, callAnswers, restingSteps, completedAllBegun, jumpsFrom, stepRecordsFrom}
-use Rattle.base_format.specs.Steps.{completedTurns, writesInAll}
+use Rattle.base_format.specs.Steps.{completedVsyncs, writesInAll}
 use Rattle.base_format.specs.Stream.{Stream, read}
-use Rattle.base_format.specs.Writes.{Turn, first}
+use Rattle.base_format.specs.Writes.{WhichVsync, first}
 use Rattle.base_format.proofs.Checks.{and-true}
 use Rattle.base_format.proofs.Compared.{passes}
 use Rattle.theorem_same_sound.proofs.Alike.{all-alike}
-use Rattle.theorem_same_sound.proofs.Calls.{onlyCalls, answers-of, admissible-of, calls-of, rest-of, none-jumped, records-of, turns-of, writes-of}
+use Rattle.theorem_same_sound.proofs.Calls.{onlyCalls, answers-of, admissible-of, calls-of, rest-of, none-jumped, records-of, vsyncs-of, writes-of}
 use Rattle.theorem_same_sound.proofs.Heard.{heardVsyncs, heard-whole}
 use Rattle.theorem_same_sound.proofs.Steps.{each-vsync-of-steps}
-use Rattle.theorem_same_sound.proofs.Turns.{either-way, later-behind, same-turns}
+use Rattle.theorem_same_sound.proofs.Which.{either-way, later-behind, same-vsyncs}
 
 -- WHAT A LISTENER HEARS
 
@@ -53,7 +53,7 @@ calls-records last current (ofJump frame (ok next) ∷ more) none rest =
 -- a player's listener heard the vsyncs whole
 listened : (file : List ℕ) (s : Stream) → read file ≡ ok s → (steps : List Step) → AllAdmissibleSteps file (started file) steps
     → completedAllBegun (stepAnswers (started file) steps) ≡ true
-    → heardAll newListener (callAnswers (stepAnswers (started file) steps)) ≡ heardVsyncs newListener (writesInAll s (completedTurns (stepAnswers (started file) steps)))
+    → heardAll newListener (callAnswers (stepAnswers (started file) steps)) ≡ heardVsyncs newListener (writesInAll s (completedVsyncs (stepAnswers (started file) steps)))
 unfolding newListener coreWrites played
 listened file s accepted steps admissible rests =
     let told = stepAnswers (started file) steps in
@@ -69,8 +69,8 @@ demand3-with-jumps master other image image′ equal steps steps′ admissible a
     let told′ = stepAnswers (started other) steps′ in
     let l = listened master (p .s) (p .accepted) steps admissible rests in
     let l′ = listened other (p .s′) (p .accepted′) steps′ admissible′ rests′ in
-    let same = all-alike (p .s) (p .s′) (p .agree) (completedTurns told) (later-behind told) in
-    let alike = ap (λ (turns : List Turn). heardVsyncs newListener (writesInAll (p .s′) turns)) (same-turns told told′ jumps counts) in
+    let same = all-alike (p .s) (p .s′) (p .agree) (completedVsyncs told) (later-behind told) in
+    let alike = ap (λ (vsyncs : List WhichVsync). heardVsyncs newListener (writesInAll (p .s′) vsyncs)) (same-vsyncs told told′ jumps counts) in
     record {
       s = p .s;
       s′ = p .s′;
@@ -92,8 +92,8 @@ together-calls master other told told′ t =
       accepted = t .accepted;
       accepted′ = t .accepted′;
       held = ap (heardAll newListener) (sym (calls-of told)) ∙ t .held ∙ ap (heardAll newListener) (calls-of told′);
-      writes = sym (records-of [] told) ∙ t .writes ∙ ap (writesInAll (t .s)) (turns-of first told) ∙ writes-of (t .s) 0 (completed told);
-      writes′ = sym (records-of [] told′) ∙ t .writes′ ∙ ap (writesInAll (t .s′)) (turns-of first told′) ∙ writes-of (t .s′) 0 (completed told′);
+      writes = sym (records-of [] told) ∙ t .writes ∙ ap (writesInAll (t .s)) (vsyncs-of first told) ∙ writes-of (t .s) 0 (completed told);
+      writes′ = sym (records-of [] told′) ∙ t .writes′ ∙ ap (writesInAll (t .s′)) (vsyncs-of first told′) ∙ writes-of (t .s′) 0 (completed told′);
     }
 
 without-jumps : Demand3WithJumps → Demand3

@@ -19,7 +19,7 @@ use Rattle.base_format.specs.Player.{Played, call}
 use Rattle.base_format.specs.Promises.{OwnFilePlaysOn, OwnFileJumps, OwnIndexJumps, EachVsyncOfSteps}
 use Rattle.base_format.specs.State.{started, moved}
 use Rattle.base_format.specs.Steps.{Step, vsyncCall, jump, Answer, ofCall, ofJump, stepAnswers, reachedBy, AdmissibleJump, jumpOwnFile, jumpRefused, AllAdmissibleSteps}
-use Rattle.base_format.specs.Steps.{restingSteps, completedAllBegun, stepRecordsFrom, turnOf, completedFrom, dueFrom, dueTurn, writesInAll}
+use Rattle.base_format.specs.Steps.{restingSteps, completedAllBegun, stepRecordsFrom, vsyncOfFrame, completedFrom, dueFrom, dueVsync, writesInAll}
 use Rattle.base_format.specs.Stream.{Stream, read}
 use Rattle.base_format.specs.WaveSources.{begun, begunBy}
 use Rattle.base_format.specs.Writes.{first, writesIn, operationsIn}
@@ -39,12 +39,12 @@ module _ (file : List ℕ) (s : Stream) (accepted : read file ≡ ok s) where
   -- records are its writes; the final state holds what is left, which is a whole vsync where every one that is begun is completed; and its
   -- wave sources are set by the operations that are begun
   pub record Left (last : Bool) (d : Due) (rest current : List WriteRecord) (told : List Answer) (final : StreamPlayer) : Type 0 where
-    pub records : current ++ rest ≡ writesIn s (d .turn) → stepRecordsFrom current told ≡ writesInAll s (completedFrom (d .turn) told)
+    pub records : current ++ rest ≡ writesIn s (d .which) → stepRecordsFrom current told ≡ writesInAll s (completedFrom (d .which) told)
     pub waves′ : List WaveSource
     pub rest′ : List WriteRecord
-    pub holds : Holds file s final (record { turn = dueFrom (d .turn) told; waves = waves′ }) rest′
-    pub rests : (last ≡ true → rest ≡ writesIn s (d .turn)) → restingSteps last told ≡ true → rest′ ≡ writesIn s (dueFrom (d .turn) told)
-    pub sources : current ++ rest ≡ writesIn s (d .turn) → final .progress .«wave_sources» ≡ wavesByAll file (begunBy s (d .turn) (length current) told) (d .waves)
+    pub holds : Holds file s final (record { which = dueFrom (d .which) told; waves = waves′ }) rest′
+    pub rests : (last ≡ true → rest ≡ writesIn s (d .which)) → restingSteps last told ≡ true → rest′ ≡ writesIn s (dueFrom (d .which) told)
+    pub sources : current ++ rest ≡ writesIn s (d .which) → final .progress .«wave_sources» ≡ wavesByAll file (begunBy s (d .which) (length current) told) (d .waves)
 
   abbrev Leaves : List Step → Type 0
   Leaves steps =
@@ -55,13 +55,13 @@ module _ (file : List ℕ) (s : Stream) (accepted : read file ≡ ok s) where
 
   -- after an answer that took what there was room for
   settled : (steps : List Step) → Leaves steps → (last : Bool) (d : Due) (rest current : List WriteRecord) (room : ℕ) (next : StreamPlayer) (done : Bool)
-      → leb (length rest) room ≡ done → Holds file s next (cond done (nextDue file s d) d) (cond done (writesIn s (nextDue file s d .turn)) (drop room rest))
+      → leb (length rest) room ≡ done → Holds file s next (cond done (nextDue file s d) d) (cond done (writesIn s (nextDue file s d .which)) (drop room rest))
       → AllAdmissibleSteps file next steps
       → Left last d rest current (ofCall (ok (record { records = take room rest; complete = done; next = next })) ∷ stepAnswers next steps) (reachedBy next steps)
   unfolding restingSteps stepRecordsFrom completedFrom dueFrom begunBy
   settled steps leaves last d rest current room next true e holds admissible =
       let behind = nextDue file s d in
-      let left = leaves true next behind (writesIn s (behind .turn)) [] holds admissible in
+      let left = leaves true next behind (writesIn s (behind .which)) [] holds admissible in
       let all : take room rest ≡ rest = take-all room rest (leb-true _ _ e) in
       record {
         records = λ joined. ap₂ _∷_ (ap (λ (l : List WriteRecord). current ++ l) all ∙ joined) (left .records refl);
@@ -69,7 +69,7 @@ module _ (file : List ℕ) (s : Stream) (accepted : read file ≡ ok s) where
         rest′ = left .rest′;
         holds = left .holds;
         rests = λ start rests. left .rests (λ e. refl) rests;
-        sources = λ joined. left .sources refl ∙ waves-append file (operationsIn s (d .turn)) (begunBy s (behind .turn) 0 (stepAnswers next steps)) (d .waves);
+        sources = λ joined. left .sources refl ∙ waves-append file (operationsIn s (d .which)) (begunBy s (behind .which) 0 (stepAnswers next steps)) (d .waves);
       }
   settled steps leaves last d rest current room next false e holds admissible =
       let left = leaves false next d (drop room rest) (current ++ take room rest) holds admissible in
@@ -81,7 +81,7 @@ module _ (file : List ℕ) (s : Stream) (accepted : read file ≡ ok s) where
         rest′ = left .rest′;
         holds = left .holds;
         rests = λ start rests. left .rests (λ e. absurd (false≢true e)) rests;
-        sources = λ joined. left .sources (regrouped ∙ joined) ∙ ap (λ (n : ℕ). wavesByAll file (begunBy s (d .turn) n (stepAnswers next steps)) (d .waves)) (length-append current (take room rest));
+        sources = λ joined. left .sources (regrouped ∙ joined) ∙ ap (λ (n : ℕ). wavesByAll file (begunBy s (d .which) n (stepAnswers next steps)) (d .waves)) (length-append current (take room rest));
       }
 
   went : (steps : List Step) → Leaves steps → (last : Bool) (state : StreamPlayer) (d : Due) (rest current : List WriteRecord) (room : ℕ) (answer : Checked Played)
@@ -139,7 +139,7 @@ module _ (file : List ℕ) (s : Stream) (accepted : read file ≡ ok s) where
   jump-made steps leaves last state d rest current holds frame known admissible =
       let next = moved state (beforeFrame s (frame - 1) (state .progress)) in
       let told = stepAnswers next steps in
-      let left = leaves last next (jumpDue file s accepted state frame) (writesIn s (turnOf frame)) [] (jump-holds file s accepted state d rest holds frame known) admissible in
+      let left = leaves last next (jumpDue file s accepted state frame) (writesIn s (vsyncOfFrame frame)) [] (jump-holds file s accepted state d rest holds frame known) admissible in
       record {
         records = λ joined. left .records refl;
         waves′ = left .waves′;
@@ -147,9 +147,9 @@ module _ (file : List ℕ) (s : Stream) (accepted : read file ≡ ok s) where
         holds = left .holds;
         rests = λ start rests. left .rests (λ e. refl) (and-true last (restingSteps last told) rests .1);
         sources = λ joined.
-            let made : length current + length rest ≡ length (writesIn s (d .turn)) = sym (length-append current rest) ∙ ap length joined in
-            left .sources refl ∙ ap (wavesByAll file (begunBy s (turnOf frame) 0 told)) (state-waves file s state d rest (length current) holds made)
-            ∙ waves-append file (begun (s .pools) (length current) (operationsIn s (d .turn))) (begunBy s (turnOf frame) 0 told) (d .waves);
+            let made : length current + length rest ≡ length (writesIn s (d .which)) = sym (length-append current rest) ∙ ap length joined in
+            left .sources refl ∙ ap (wavesByAll file (begunBy s (vsyncOfFrame frame) 0 told)) (state-waves file s state d rest (length current) holds made)
+            ∙ waves-append file (begun (s .pools) (length current) (operationsIn s (d .which))) (begunBy s (vsyncOfFrame frame) 0 told) (d .waves);
       }
 
   own-jumps : (steps : List Step) → Leaves steps → (last : Bool) (state : StreamPlayer) (d : Due) (rest current : List WriteRecord) → Holds file s state d rest
@@ -198,7 +198,7 @@ module _ (file : List ℕ) (s : Stream) (accepted : read file ≡ ok s) where
 
   -- where every vsync that is begun is completed, a whole one is left
   pub reached-rests : (steps : List Step) → AllAdmissibleSteps file (started file) steps → completedAllBegun (stepAnswers (started file) steps) ≡ true
-      → (d : Due) × ((d .turn ≡ dueTurn (stepAnswers (started file) steps)) × Holds file s (reachedBy (started file) steps) d (writesIn s (d .turn)))
+      → (d : Due) × ((d .which ≡ dueVsync (stepAnswers (started file) steps)) × Holds file s (reachedBy (started file) steps) d (writesIn s (d .which)))
   reached-rests steps admissible rests =
       let left = from-start steps admissible in
       (_, (refl, subst (Holds file s (reachedBy (started file) steps) _) (left .rests (λ e. refl) rests) (left .holds)))

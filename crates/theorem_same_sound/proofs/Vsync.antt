@@ -20,7 +20,7 @@ use Rattle.base_format.specs.Next.{frameNext, openingNext, closingNext, nextPar
 use Rattle.base_format.specs.Player.{Played, openingBegun, frameBegun, closingAt, playFrame, playOpening, playClosing, play, belongs, as25, call}
 use Rattle.base_format.specs.State.{partOf, unplayed, playerOf, startedAs, started}
 use Rattle.base_format.specs.Stream.{Stream, read}
-use Rattle.base_format.specs.Writes.{Turn, first, later, nextTurn, closing, writesIn}
+use Rattle.base_format.specs.Writes.{WhichVsync, first, later, vsyncBehind, closing, writesIn}
 use Rattle.base_format.proofs.Accepted.{Accepted, HeaderOk, accepted, header-ok}
 use Rattle.index_laws.proofs.Places.{frame-count}
 use Rattle.theorem_same_sound.proofs.Heard.{Goes}
@@ -63,36 +63,36 @@ module _ (file : List ℕ) (s : Stream) (acc : Accepted file (headerOf file) s) 
       go false true = refl
       go false false = refl
 
-  after-last : (p : Progress) (d : Due) (k room : ℕ) → d .turn ≡ later k → Ahead file s k (p .«frame_index») 0 (p .cursor) → Inside file p → p .«wave_sources» ≡ d .waves
-      → (again : Bool) → headerOf file .repeat ≡ again → Plays file s d (writesIn s (d .turn)) room (cond again (firstFrame p room) (closes p room))
+  after-last : (p : Progress) (d : Due) (k room : ℕ) → d .which ≡ later k → Ahead file s k (p .«frame_index») 0 (p .cursor) → Inside file p → p .«wave_sources» ≡ d .waves
+      → (again : Bool) → headerOf file .repeat ≡ again → Plays file s d (writesIn s (d .which)) room (cond again (firstFrame p room) (closes p room))
   unfolding closing
-  after-last p d k room turn ahead inside sources true e =
+  after-last p d k room which ahead inside sources true e =
       let start = subst (λ (n : ℕ). Ahead file s k 0 n (headerOf file .«frame_start»)) (one-frame file s acc .1) (again-ahead file s acc (acc .repeat ∙ e) k (p .«frame_index») (p .cursor) ahead) in
-      begin-plays file s acc p d k 0 (one-frame file s acc .0) (headerOf file .«frame_start») room turn start sources
-  after-last p d k room turn ahead inside sources false e =
+      begin-plays file s acc p d k 0 (one-frame file s acc .0) (headerOf file .«frame_start») room which start sources
+  after-last p d k room which ahead inside sources false e =
       let once : s .repeat ≡ false = acc .repeat ∙ e in
       let number : k ≡ 0 * headerOf file .«frame_count» + p .«frame_index» = ahead .vsyncs ∙ ap (λ (m : ℕ). m * headerOf file .«frame_count» + p .«frame_index») (ahead .once once) in
       let last : k ≡ length (s .frames) = omega (arith, frame-count file s acc, ahead .counted) in
-      closing-plays file s acc p (closingAt 0 false p) d (writesIn s (d .turn)) room (record {
+      closing-plays file s acc p (closingAt 0 false p) d (writesIn s (d .which)) room (record {
         part = refl;
         going = refl;
         once = once;
-        turn = turn ∙ ap later last;
+        which = which ∙ ap later last;
         within = omega arith;
         sources = sources;
-        is = ap (writesIn s) turn ∙ writes-closing s once k last;
+        is = ap (writesIn s) which ∙ writes-closing s once k last;
       }) (record { cursor = inside .cursor; frames = inside .frames; operations = omega arith })
 
-  between-plays : (p : Progress) (d : Due) (k room more : ℕ) → p .initialized ≡ true → d .turn ≡ later k → Ahead file s k (p .«frame_index») more (p .cursor) → Inside file p
-      → p .«wave_sources» ≡ d .waves → Plays file s d (writesIn s (d .turn)) room (play (playerOf file s p) file room p Between)
-  between-plays p d k room (suc more) initialized turn ahead inside sources =
+  between-plays : (p : Progress) (d : Due) (k room more : ℕ) → p .initialized ≡ true → d .which ≡ later k → Ahead file s k (p .«frame_index») more (p .cursor) → Inside file p
+      → p .«wave_sources» ≡ d .waves → Plays file s d (writesIn s (d .which)) room (play (playerOf file s p) file room p Between)
+  between-plays p d k room (suc more) initialized which ahead inside sources =
       let less : p .«frame_index» < headerOf file .«frame_count» = omega (arith, ahead .counted) in
       let begin = opened p room initialized ∙ ap (λ (b : Bool). cond b (nextFrame p room) (cond (headerOf file .repeat) (firstFrame p room) (closes p room))) (lt-ltb _ _ less) in
-      rw begin (begin-plays file s acc p d k (p .«frame_index») more (p .cursor) room turn ahead sources)
-  between-plays p d k room zero initialized turn ahead inside sources =
+      rw begin (begin-plays file s acc p d k (p .«frame_index») more (p .cursor) room which ahead sources)
+  between-plays p d k room zero initialized which ahead inside sources =
       let none : headerOf file .«frame_count» ≤ p .«frame_index» = omega (arith, ahead .counted) in
       let begin = opened p room initialized ∙ ap (λ (b : Bool). cond b (nextFrame p room) (cond (headerOf file .repeat) (firstFrame p room) (closes p room))) (le-ltb _ _ none) in
-      rw begin (after-last p d k room turn ahead inside sources (headerOf file .repeat) refl)
+      rw begin (after-last p d k room which ahead inside sources (headerOf file .repeat) refl)
 
   -- THE CALL
 
@@ -115,7 +115,7 @@ module _ (file : List ℕ) (s : Stream) (acc : Accepted file (headerOf file) s) 
   phase-plays p d rest room inside (at-between phase) going =
       subst (PlaysAs p d rest room) (sym (phase .part))
       (subst (λ (r : List WriteRecord). PlaysAs p d r room Between) (sym (phase .is))
-      (between-plays p d (phase .number) room (phase .more) (phase .initialized) (phase .turn) (phase .ahead) inside (phase .sources)))
+      (between-plays p d (phase .number) room (phase .more) (phase .initialized) (phase .which) (phase .ahead) inside (phase .sources)))
   phase-plays p d rest room inside (at-closing phase) going =
       subst (PlaysAs p d rest room) (sym (phase .part)) (closing-plays file s acc p p d rest room phase inside)
   phase-plays p d rest room inside (at-over phase) going = absurd (false≢true (sym going ∙ phase .over))
@@ -156,11 +156,11 @@ module _ (file : List ℕ) (s : Stream) (acc : Accepted file (headerOf file) s) 
             over = over .over;
             once = over .once;
             number = suc (over .number);
-            turn = ap nextTurn (over .turn);
+            which = ap vsyncBehind (over .which);
             last = omega (arith, over .last);
             within = over .within;
-            sources = over .sources ∙ sym (waves-still file s (over .once) d (over .number) (over .turn) (omega (arith, over .last)));
-            is = ap (λ (t : Turn). writesIn s (nextTurn t)) (over .turn) ∙ writes-over s (over .once) (suc (over .number)) (omega (arith, over .last));
+            sources = over .sources ∙ sym (waves-still file s (over .once) d (over .number) (over .which) (omega (arith, over .last)));
+            is = ap (λ (t : WhichVsync). writesIn s (vsyncBehind t)) (over .which) ∙ writes-over s (over .once) (suc (over .number)) (omega (arith, over .last));
           });
         });
       })

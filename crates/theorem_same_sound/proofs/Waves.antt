@@ -19,9 +19,9 @@ use Rattle.base_format.specs.Player.{wavesBy}
 use Rattle.base_format.specs.Pool.{noPool, poolAt}
 use Rattle.base_format.specs.State.{noWave, poolIn}
 use Rattle.base_format.specs.Stream.{Stream, operationsFrom, framesFrom}
-use Rattle.base_format.specs.Steps.{Answer, ofCall, ofJump, turnOf}
+use Rattle.base_format.specs.Steps.{Answer, ofCall, ofJump, vsyncOfFrame}
 use Rattle.base_format.specs.WaveSources.{copiedBy, lastCopied, begun, begunBy}
-use Rattle.base_format.specs.Writes.{Turn, first, later, nextTurn, writesOf, operationsIn}
+use Rattle.base_format.specs.Writes.{WhichVsync, first, later, vsyncBehind, writesOf, operationsIn}
 use Rattle.base_format.proofs.Accepted.{Accepted}
 use Rattle.base_format.proofs.Checks.{ok-is}
 use Rattle.base_format.proofs.Rules.{copy-allowed}
@@ -101,30 +101,31 @@ module _ (file : List ℕ) (s : Stream) (acc : Accepted file (headerOf file) s) 
   either true x y h h′ = h
   either false x y h h′ = h′
 
-  turn-kept : (turn : Turn) → AllKept file s (operationsIn s turn)
+  vsync-kept : (which : WhichVsync) → AllKept file s (operationsIn s which)
   unfolding operationsIn
-  turn-kept turn = go turn
+  vsync-kept which = go which
     where
       frame : (k : ℕ) → AllKept file s (getD (s .frames) k [])
       frame k = frames-kept (headerOf file .«frame_count») (headerOf file .«frame_start») (s .frames, length file) (acc .frames) k
 
-      go : (turn : Turn) → AllKept file s (operationsIn s turn)
+      go : (which : WhichVsync) → AllKept file s (operationsIn s which)
       go first =
           kept-append file s (s .opening) _
           (operations-kept _ (headerOf file .«initial_count») (headerOf file .«initial_start») (s .opening, headerOf file .«frame_start») (acc .opening)) (frame 0)
       go (later k) = either (s .repeat) _ _ (frame (k % length (s .frames))) (either (ltb k (length (s .frames))) _ _ (frame k) tt)
 
-  pub begun-kept : (turn : Turn) (n : ℕ) (told : List Answer) → AllKept file s (begunBy s turn n told)
+  pub begun-kept : (which : WhichVsync) (n : ℕ) (told : List Answer) → AllKept file s (begunBy s which n told)
   unfolding begunBy
-  begun-kept turn n [] = kept-begun file s n (operationsIn s turn) (turn-kept turn)
-  begun-kept turn n (ofCall (refused number place) ∷ more) = begun-kept turn n more
-  begun-kept turn n (ofCall (ok answer) ∷ more) =
+  begun-kept which n [] = kept-begun file s n (operationsIn s which) (vsync-kept which)
+  begun-kept which n (ofCall (refused number place) ∷ more) = begun-kept which n more
+  begun-kept which n (ofCall (ok answer) ∷ more) =
       either (answer .complete) _ _
-      (kept-append file s (operationsIn s turn) (begunBy s (nextTurn turn) 0 more) (turn-kept turn) (begun-kept (nextTurn turn) 0 more))
-      (begun-kept turn (n + length (answer .records)) more)
-  begun-kept turn n (ofJump frame (refused number place) ∷ more) = begun-kept turn n more
-  begun-kept turn n (ofJump frame (ok next) ∷ more) =
-      kept-append file s (begun (s .pools) n (operationsIn s turn)) (begunBy s (turnOf frame) 0 more) (kept-begun file s n (operationsIn s turn) (turn-kept turn)) (begun-kept (turnOf frame) 0 more)
+      (kept-append file s (operationsIn s which) (begunBy s (vsyncBehind which) 0 more) (vsync-kept which) (begun-kept (vsyncBehind which) 0 more))
+      (begun-kept which (n + length (answer .records)) more)
+  begun-kept which n (ofJump frame (refused number place) ∷ more) = begun-kept which n more
+  begun-kept which n (ofJump frame (ok next) ∷ more) =
+      kept-append file s (begun (s .pools) n (operationsIn s which)) (begunBy s (vsyncOfFrame frame) 0 more)
+      (kept-begun file s n (operationsIn s which) (vsync-kept which)) (begun-kept (vsyncOfFrame frame) 0 more)
 
 -- THE POOL LAST COPIED
 

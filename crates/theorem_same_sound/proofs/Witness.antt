@@ -14,7 +14,7 @@ use Rattle.base_format.specs.Listener.{after, ownFile, completed}
 use Rattle.base_format.specs.Player.{call}
 use Rattle.base_format.specs.Promises.{TogetherWithJumps}
 use Rattle.base_format.specs.State.{started}
-use Rattle.base_format.specs.Steps.{Answer, stepAnswers, jumpOwnFile, AllAdmissibleSteps, callAnswers, completedAllBegun, jumpsMade, completedTurns}
+use Rattle.base_format.specs.Steps.{Answer, stepAnswers, jumpOwnFile, AllAdmissibleSteps, callAnswers, completedAllBegun, jumpsMade, completedVsyncs}
 use Rattle.base_format.specs.Stream.{Stream}
 use Rattle.base_format.specs.Writes.{first, later}
 use Rattle.base_format.specs.Written.{written}
@@ -84,9 +84,9 @@ middle = play 1 ∷ play 1 ∷ play 1 ∷ play 1 ∷ to 1 ∷ play 1 ∷ play 1 
 middle′ : List Move
 middle′ = play 40 ∷ play 40 ∷ to 9 ∷ to 1 ∷ play 40 ∷ play 40 ∷ []
 
-middle-turns : completedTurns (told (three 1) middle) ≡ first ∷ later 1 ∷ later 0 ∷ later 1 ∷ []
+middle-vsyncs : completedVsyncs (told (three 1) middle) ≡ first ∷ later 1 ∷ later 0 ∷ later 1 ∷ []
 unfolding told middle stepsOf three reading writing listing playing jumping stepping
-middle-turns = refl
+middle-vsyncs = refl
 
 middle-premises : Premises middle middle′ ((2, 1) ∷ []) 4
 unfolding completed told middle middle′ stepsOf three reading writing listing playing jumping stepping
@@ -102,9 +102,9 @@ before = to 2 ∷ play 1 ∷ play 0 ∷ play 20 ∷ play 12 ∷ []
 before′ : List Move
 before′ = to 2 ∷ play 40 ∷ play 40 ∷ play 40 ∷ []
 
-before-turns : completedTurns (told (three 1) before) ≡ later 1 ∷ later 2 ∷ later 3 ∷ []
+before-vsyncs : completedVsyncs (told (three 1) before) ≡ later 1 ∷ later 2 ∷ later 3 ∷ []
 unfolding told before stepsOf three reading writing listing playing jumping stepping
-before-turns = refl
+before-vsyncs = refl
 
 before-premises : Premises before before′ ((0, 2) ∷ []) 3
 unfolding completed told before before′ stepsOf three reading writing listing playing jumping stepping
@@ -120,9 +120,9 @@ finished = play 40 ∷ play 40 ∷ play 40 ∷ play 40 ∷ play 40 ∷ to 3 ∷ 
 finished′ : List Move
 finished′ = play 3 ∷ play 1 ∷ play 0 ∷ play 32 ∷ play 0 ∷ to 3 ∷ play 0 ∷ play 32 ∷ play 0 ∷ []
 
-finished-turns : completedTurns (told (three 1) finished) ≡ first ∷ later 1 ∷ later 2 ∷ later 3 ∷ later 4 ∷ later 2 ∷ later 3 ∷ later 4 ∷ []
+finished-vsyncs : completedVsyncs (told (three 1) finished) ≡ first ∷ later 1 ∷ later 2 ∷ later 3 ∷ later 4 ∷ later 2 ∷ later 3 ∷ later 4 ∷ []
 unfolding told finished stepsOf three reading writing listing playing jumping stepping
-finished-turns = refl
+finished-vsyncs = refl
 
 finished-premises : Premises finished finished′ ((5, 3) ∷ []) 8
 unfolding completed told finished finished′ stepsOf three reading writing listing playing jumping stepping

@@ -2,19 +2,19 @@
 use borrow.Author.Needs.{needs}
 use borrow.Author.Tests.{eq-eqb, ne-eqb, le-ltb, lt-ltb}
 use mathlib.Core.Path.{sym}
-use Rattle.index_laws.specs.Frames.{frameEnd}
+use Rattle.index_laws.specs.Frames.{frameWalked}
 use Rattle.index_frames.proofs.frame_end.Statement.{statement}
 use Rattle.index_frames.proofs.frame_end.Tie as tie
 
 returns : tie.Need-returns
-unfolding frameEnd
+unfolding frameWalked
 returns c =
     let r = c .before in
     let t = r .before in
     rw (sym (t .before .smaller .ensures .0), lt-ltb _ _ (t .if1 .taken), eq-eqb _ _ (c .if2 .taken), sym (r .read-u16 .ensures))
 
 returns-2 : tie.Need-returns-2
-unfolding frameEnd
+unfolding frameWalked
 returns-2 c =
     let w = c .before in
     let r = w .before .before in
@@ -22,7 +22,7 @@ returns-2 c =
     rw (sym (t .before .smaller .ensures .0), lt-ltb _ _ (t .if1 .taken), ne-eqb _ _ (w .before .if2 .left), sym (r .read-u16 .ensures), sym (w .address-width .ensures .0)) (c .items-end .ensures)
 
 returns-3 : tie.Need-returns-3
-unfolding frameEnd
+unfolding frameWalked
 returns-3 c = rw (sym (c .before .smaller .ensures .0), le-ltb _ _ (c .if1 .left))
 
 pub frame-end-spec : {M : Type 1} → statement M

@@ -5,13 +5,13 @@ use borrow.Author.Tests.{ltb-false}
 use Prim.Native.Nat.{_+_, _≤_}
 use mathlib.Core.Path.{_≡_, refl, sym, _∙_}
 use Rattle.base_format.specs.Bytes.{be}
-use Rattle.index_laws.specs.Frames.{walkLimit, framesEnd}
+use Rattle.index_laws.specs.Frames.{walkLimit, framesWalked}
 use Rattle.index_laws.proofs.Empty.{four-empty}
 use Rattle.index_frames.proofs.pass_empty.Statement.{statement}
 use Rattle.index_frames.proofs.pass_empty.Tie as tie
 
 abbrev Inv-loop : tie.InvT-loop
-Inv-loop file version count start limit at₀ left₀ at left = framesEnd version file count start ≡ framesEnd version file left at
+Inv-loop file version count start limit at₀ left₀ at left = framesWalked version file count start ≡ framesWalked version file left at
 
 abbrev μ-loop : tie.MeasureT-loop
 μ-loop file version count start limit at₀ left₀ at left = left
