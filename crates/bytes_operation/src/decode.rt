@@ -1,17 +1,17 @@
 // All numbers of a record or an operation at once, and the operation that they are.
 use crate::number::address_in;
-use crate::number::length_in;
+use crate::number::length_by;
 use crate::number::opcode_in;
-use crate::number::pool_in;
-use crate::number::size_in;
-use crate::number::source_in;
+use crate::number::pool_by;
+use crate::number::size_by;
+use crate::number::source_by;
 use crate::number::target_in;
-use crate::number::value_in;
+use crate::number::value_by;
 use base_format::Operation;
 use base_format::RECORD_SIZE;
 use bytes_operation_size::address_width;
+use bytes_operation_size::read_address;
 use bytes_read::byte_at;
-use bytes_read::read_u24;
 ghost use mathlib.Core.Path.{_≡_};
 ghost use Prim.Native.Nat.{_≤_};
 ghost use Rattle.base_format.specs.Size.{operationMost};
@@ -30,31 +30,39 @@ pub struct Decoded {
     pub size: usize,
 }
 
-// An operation with addresses of a width.
+// An operation with addresses of a width. Each byte is fetched once, in the file's order: opcode, target, address, and then what the opcode
+// says, which is pool, source and length, or length and value, or value.
 pub fn decode_operation(bytes: &[u8], width: usize) -> Decoded
     requires { ⌜ (3 ≤ width) × (width ≤ 4) ⌝ }
     ensures { λ r. ⌜ (r ≡ decodedOperation width (now (bytes .entry))) × (r .size ≤ operationMost) ⌝ }
 {
+    let opcode = opcode_in(bytes);
+    let target = target_in(bytes);
+    let address = address_in(bytes, width);
+    let pool = pool_by(opcode, bytes, width);
+    let source = source_by(opcode, bytes, width);
+    let length = length_by(opcode, bytes, width);
+    let value = value_by(opcode, bytes, width);
     Decoded {
-        opcode: opcode_in(bytes),
-        target: target_in(bytes),
-        address: address_in(bytes, width),
-        length: length_in(bytes, width),
-        value: value_in(bytes, width),
-        pool: pool_in(bytes, width),
-        source: source_in(bytes, width),
-        size: size_in(bytes, width),
+        opcode,
+        target,
+        address,
+        length,
+        value,
+        pool,
+        source,
+        size: size_by(opcode, width),
     }
 }
 
-// A record of version 1.
+// A record of version 1: target, 3 address bytes, value.
 pub fn decode_record(bytes: &[u8]) -> Decoded
     ensures { λ r. ⌜ r ≡ decodedRecord (now (bytes .entry)) ⌝ }
 {
     Decoded {
         opcode: 0,
         target: byte_at(bytes, 0),
-        address: read_u24(bytes, 1),
+        address: read_address(bytes, 3, 1),
         length: 1,
         value: byte_at(bytes, 4),
         pool: 0,

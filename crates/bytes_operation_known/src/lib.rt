@@ -25,8 +25,9 @@ pub fn fill_length_in(bytes: &[u8], width: usize) -> u32
     requires { ⌜ (3 ≤ width) × (width ≤ 4) ⌝ }
     ensures { λ r. ⌜ r ≡ fillLength width (now (bytes .entry)) ⌝ }
 {
+    let opcode = opcode_in(bytes);
     let length = read_u32(bytes, 2 + width);
-    if opcode_in(bytes) == 0 {
+    if opcode == 0 {
         return 1;
     }
     length
@@ -47,7 +48,8 @@ pub fn fill_value_in(bytes: &[u8], width: usize) -> u8
     requires { ⌜ (3 ≤ width) × (width ≤ 4) ⌝ }
     ensures { λ r. ⌜ r ≡ fillValue width (now (bytes .entry)) ⌝ }
 {
-    byte_at(bytes, 2 + width + extra(opcode_in(bytes), 4))
+    let opcode = opcode_in(bytes);
+    byte_at(bytes, 2 + width + extra(opcode, 4))
 }
 
 // The value of a WRITE.

@@ -100,6 +100,7 @@ pub fn quick_operation(
     requires { ⌜ (3 ≤ width) × (width ≤ 4) ⌝ }
     ensures { λ r. ⌜ r ≡ quickOperation width (now (file .entry)) pools directory (now (table .entry)) (now (bytes .entry)) ⌝ }
 {
+    let opcode = opcode_in(bytes);
     let target = target_in(bytes) as usize;
     if TARGETS <= target {
         return Quick {
@@ -107,7 +108,6 @@ pub fn quick_operation(
             size: 0,
         };
     }
-    let opcode = opcode_in(bytes);
     if opcode == 0 {
         let limits = limits_at(table, target);
         return Quick {

@@ -31,7 +31,7 @@ fn item_size(width: usize, opcode: u8) -> usize
     operation_size(width, 2)
 }
 
-// Where so many operations end.
+// Where so many operations end. Of each only the opcode is read.
 fn items_end(file: &[u8], width: usize, limit: usize, count: u32, start: usize) -> usize
     requires { ⌜ (3 ≤ width) × (width ≤ 4) × (limit ≡ walkLimit (now file)) ⌝ }
     ensures { λ r. ⌜ r ≡ itemsWalked width (now (file .entry)) count start ⌝ }
@@ -40,7 +40,8 @@ fn items_end(file: &[u8], width: usize, limit: usize, count: u32, start: usize) 
     let mut left = count;
     while 0 < left {
         if at < limit {
-            at += item_size(width, file[at]);
+            let opcode = file[at];
+            at += item_size(width, opcode);
             left -= 1;
         } else {
             return at;

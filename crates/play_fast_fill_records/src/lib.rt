@@ -65,17 +65,23 @@ fn others(count: u32, made: u32) -> u32
     count - made - 1
 }
 
-// The first record that is not made yet of the WRITE or FILL in some bytes.
+// The first record that is not made yet of the WRITE or FILL in some bytes. The size asks for the opcode alone, and so it comes first; then the
+// numbers in the file's order.
 fn first_record(bytes: &[u8], width: usize, place: FillPlace) -> FillPlace
     requires { ⌜ (3 ≤ width) × (width ≤ 4) × (place .cursor + operationMost < 2 ^ 64) ⌝ }
     ensures { λ r. ⌜ r ≡ firstRecord width (now (bytes .entry)) place ⌝ }
 {
+    let size = fill_size_in(bytes, width);
+    let target = target_in(bytes);
+    let address = address_in(bytes, width);
+    let length = fill_length_in(bytes, width);
+    let value = fill_value_in(bytes, width);
     FillPlace {
-        target: target_in(bytes),
-        address: wrapping_add_u32(address_in(bytes, width), place.made),
-        value: fill_value_in(bytes, width),
-        left: others(fill_length_in(bytes, width), place.made),
-        cursor: place.cursor + fill_size_in(bytes, width),
+        target,
+        address: wrapping_add_u32(address, place.made),
+        value,
+        left: others(length, place.made),
+        cursor: place.cursor + size,
         made: 0,
     }
 }

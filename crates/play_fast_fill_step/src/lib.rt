@@ -29,7 +29,8 @@ pub fn fill_step(
         return no_step();
     }
     let at = playing.at;
-    if 1 < byte_at(file, at.cursor) {
+    let opcode = byte_at(file, at.cursor);
+    if 1 < opcode {
         return no_step();
     }
     let left = operations_left(at.operation_index, at.operation_count);

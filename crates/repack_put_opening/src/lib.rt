@@ -6,9 +6,9 @@ use base_format::RECORD_SIZE;
 use bytes_operation_size::operation_size;
 use bytes_put_items::put_copy;
 use bytes_put_items::put_fill;
-use bytes_read::read_u24;
 use repack_put_items::WIDTH;
 use repack_put_items::put_record;
+use repack_put_items::record_at;
 ghost use mathlib.Core.Path.{_≡_};
 ghost use Prim.Native.Nat.{_+_, _*_, _≤_, _<_};
 ghost use lib.ListN.{length};
@@ -33,8 +33,9 @@ pub fn pcm_run(file: &[u8], count: usize) -> PcmRun
     let mut left = count;
     let mut pcm: usize = 0;
     while 0 < left {
-        if file[at] == 2 {
-            if read_u24(file, at + 1) as usize != pcm {
+        let record = record_at(file, at);
+        if record.target == 2 {
+            if record.address as usize != pcm {
                 return PcmRun::OutOfOrder;
             }
             pcm += 1;
@@ -111,7 +112,8 @@ fn put_cores(file: &[u8], count: usize, buffer: &mut [u8], at: usize) -> usize
     let mut left = count;
     let mut place = at;
     while 0 < left {
-        if file[from] != 2 {
+        let target = file[from];
+        if target != 2 {
             put_record(file, from, buffer, place);
             place += write;
         }

@@ -2,6 +2,7 @@
 use base_format::MASTER_HEADER_SIZE;
 use base_format::RECORD_SIZE;
 use base_format::WAVE_SIZE;
+use repack_put_items::record_at;
 use repack_wave_table::MOST;
 ghost use mathlib.Core.Path.{_≡_};
 ghost use Prim.Native.Nat.{_+_, _*_, _≤_};
@@ -21,8 +22,9 @@ pub fn put_pcm(file: &[u8], count: usize, buffer: &mut [u8], at: usize)
     let mut left = count;
     let mut place = at;
     while 0 < left {
-        if file[from] == 2 {
-            buffer[place] = file[from + 4];
+        let record = record_at(file, from);
+        if record.target == 2 {
+            buffer[place] = record.value;
             place += 1;
         }
         from += RECORD_SIZE;

@@ -2,8 +2,7 @@
 use base_format::RECORD_SIZE;
 use base_format::WAVE_RECORDS_SIZE;
 use base_format::WAVE_SIZE;
-use bytes_read::read_u24;
-use bytes_read::read_u32;
+use repack_put_items::record_at;
 ghost use mathlib.Core.Path.{_≡_};
 ghost use Prim.Native.Nat.{_+_, _*_, _≤_, _<_};
 ghost use lib.ListN.{length};
@@ -11,20 +10,24 @@ ghost use Rattle.base_format.specs.Repack.{runs, startsWave};
 ghost use Rattle.base_format.specs.Size.{recordSize, waveRecordsSize};
 ghost use Rattle.base_master.specs.Places.{recordsAt};
 
-// Whether 256 records go to one target at consecutive addresses. Target and address of a record are compared as one number.
+// Whether 256 records go to one target at consecutive addresses.
 fn runs_on(records: &[u8], target: u8, address: u32) -> bool
     requires { ⌜ (length (now records) ≡ waveRecordsSize) × (target < 2) × (address < 0x800) ⌝ }
     ensures { λ r. ⌜ r ≡ runs 256 target address (recordsAt (now (records .entry)) 256 0) ⌝ }
 {
     let mut left = WAVE_SIZE;
     let mut place: usize = 0;
-    let mut head = target as u32 * 0x1000000 + address;
+    let mut next = address;
     while 0 < left {
-        if read_u32(records, place) != head {
+        let record = record_at(records, place);
+        if record.target != target {
+            return false;
+        }
+        if record.address != next {
             return false;
         }
         place += RECORD_SIZE;
-        head += 1;
+        next += 1;
         left -= 1;
     }
     true
@@ -38,11 +41,12 @@ pub fn starts_wave(file: &[u8], at: usize, left: usize) -> bool
     if left < WAVE_SIZE {
         return false;
     }
-    let target = file[at];
+    let record = record_at(file, at);
+    let target = record.target;
     if 2 <= target {
         return false;
     }
-    let address = read_u24(file, at + 1);
+    let address = record.address;
     if 0x800 <= address {
         return false;
     }

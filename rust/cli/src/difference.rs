@@ -174,7 +174,7 @@ impl<'a> Writes<'a> {
     }
 
     /// Takes the next record or operation, field by field in the format sheet's order. The library's own reader of them is its crate
-    /// `fields`; no entry point exports it, because it reads without the rules.
+    /// `bytes_operation`; no entry point exports it, because it reads without the rules.
     fn take_operation(&mut self) {
         let (file, mut place) = (self.file, self.at);
         let mut take = |width: usize| {

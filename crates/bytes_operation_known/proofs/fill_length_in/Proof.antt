@@ -7,13 +7,13 @@ use Rattle.bytes_operation_known.proofs.fill_length_in.Tie as tie
 
 returns : tie.Need-returns
 unfolding fillLength
-returns c = rw (← (c .before .opcode-in .ensures), eq-eqb _ _ (c .if1 .taken))
+returns c = rw (← (c .before .before .opcode-in .ensures), eq-eqb _ _ (c .if1 .taken))
 
 returns-2 : tie.Need-returns-2
 unfolding fillLength
 returns-2 c =
-    let o = c .before in
-    rw (← (o .opcode-in .ensures), ne-eqb _ _ (c .if1 .left)) (o .before .read-u32 .ensures)
+    let r = c .before in
+    rw (← (r .before .opcode-in .ensures), ne-eqb _ _ (c .if1 .left)) (r .read-u32 .ensures)
 
 pub fill-length-in-spec : {M : Type 1} → statement M
 fill-length-in-spec = tie.close (tie.spec (search needs) (search needs) (search needs) returns returns-2)

@@ -19,26 +19,30 @@ abbrev μ-loop : tie.MeasureT-loop
 
 returns : tie.Need-returns Inv-loop μ-loop
 returns c =
-    let t = c .before .before .before .before in
-    let p = t .before in
-    let s = p .before .before in
+    let one = c .before .before in
+    let r = one .before .before in
+    let p = r .before .before in
+    let a = p .before .before .args in
     let l = p .loop in
-    sym (l .inv .2 ∙ pcm-wrong (s .args .file .now) (l .pcm) (l .left) (l .at) (t .loop-test .taken) (c .before .before .if1 .taken) (λ e. c .if2 .taken (c .before .read-u24 .ensures ∙ e)))
+    let is = r .record-at .ensures in
+    sym (l .inv .2
+    ∙ pcm-wrong (a .file .now) (l .pcm) (l .left) (l .at) (r .before .loop-test .taken) (sym (is .0) ∙ one .if1 .taken) (λ e. c .if2 .taken (is .1 ∙ e)))
 
 loop-again : tie.Need-loop-again Inv-loop μ-loop
 loop-again c =
-    let t = c .before .before in
-    let s = t .before .before .before in
+    let r = c .before .before in
+    let t = r .before in
     let l = t .before .loop in
-    let file = s .args .file .now in
+    let file = t .before .before .before .args .file .now in
+    let is = r .record-at .ensures in
     let rest = recordsAt file (l .left - 1) (l .at + 5) in
     ⊎-elim
-    (λ w. (omega arith, omega (arith, w .3), l .inv .2 ∙ pcm-more file (l .pcm) (l .left) (l .at) (t .loop-test .taken) (w .0 .taken) (sym (w .1 .ensures) ∙ w .2 .left) ∙ ap (λ (n : ℕ). pcmFrom n rest) (sym (w .3))))
-    (λ w. (omega arith, omega (arith, w .1), l .inv .2 ∙ pcm-other file (l .pcm) (l .left) (l .at) (t .loop-test .taken) (w .0 .left) ∙ ap (λ (n : ℕ). pcmFrom n rest) (sym (w .1))))
+    (λ w. (omega arith, omega (arith, w .3), l .inv .2 ∙ pcm-more file (l .pcm) (l .left) (l .at) (t .loop-test .taken) (sym (is .0) ∙ w .0 .taken) (sym (is .1) ∙ w .2 .left) ∙ ap (λ (n : ℕ). pcmFrom n rest) (sym (w .3))))
+    (λ w. (omega arith, omega (arith, w .1), l .inv .2 ∙ pcm-other file (l .pcm) (l .left) (l .at) (t .loop-test .taken) (λ e. w .0 .left (is .0 ∙ e)) ∙ ap (λ (n : ℕ). pcmFrom n rest) (sym (w .1))))
     (c .if1 .came)
 
 pub pcm-run-spec : {M : Type 1} → statement M
 pcm-run-spec =
     tie.close
-    (tie.spec Inv-loop μ-loop (λ c. (omega arith, omega arith, refl)) (search needs) (search needs) (search needs) (search needs) returns (search needs) (search needs) (search needs)
+    (tie.spec Inv-loop μ-loop (λ c. (omega arith, omega arith, refl)) (search needs) (search needs) returns (search needs) (search needs) (search needs)
     (search needs) loop-again (λ c. let none : c .before .loop .left ≡ 0 = omega arith in rw (c .before .loop .inv .2, none, pcm-none)))

@@ -1,4 +1,5 @@
-//! Runs the command and compares output and exit status, byte for byte; and the first differences that its library finds.
+//! Runs the command and compares output and exit status, byte for byte; the first differences that its library finds; and what documents and
+//! sources say of each other.
 
 mod check;
 mod compare;
@@ -9,6 +10,7 @@ mod input;
 mod launcher;
 mod play;
 mod play_from;
+mod reading;
 mod repack;
 mod result;
 mod rules;

@@ -179,10 +179,10 @@ impl Reader<'_> {
     }
 
     fn record(&mut self, part: &mut Part) {
-        let at = self.at;
-        let value = self.file[at + 4];
-        let address = self.number(at + 1, 3);
-        upward(part, self.file[at], address, [value]);
+        let target = self.file[self.at];
+        let address = self.number(self.at + 1, 3);
+        let value = self.file[self.at + 4];
+        upward(part, target, address, [value]);
         self.at += RECORD_SIZE;
     }
 

@@ -8,4 +8,4 @@ pub decode-operation-spec : {M : Type 1} → statement M
 unfolding decodedOperation
 decode-operation-spec =
     tie.close
-    (tie.spec (search needs) (search needs) (search needs) (search needs) (search needs) (search needs) (search needs) (search needs) (λ c. (cc, c .size-in .ensures .1)))
+    (tie.spec (search needs) (search needs) (search needs) (search needs) (search needs) (search needs) (search needs) (search needs) (λ c. (cc, c .size-by .ensures .1)))

@@ -42,10 +42,10 @@ known width file pools directory table bytes passed size opcode t is o p s =
     rw (p, sized, lt-leb 12 (byte bytes 1) t, le-ltb 2 (byte bytes 0) (rw is o))
 
 -- the way of an opcode of the sheet: what is said is the item's test, by the limits of its target, and the opcode's size
-way : (c : tie.After-opcode-in) → (
-    let target = c .before .before in
-    let a = target .before .before .before .args in
-    (opcode : ℕ) (test : TargetLimits → Decoded → Bool) (row : TargetLimits) (passed : Bool) (size : ℕ) → opcode ≤ 2 → c .opcode-in .result ≡ opcode
+way : (c : tie.Else1) → (
+    let target = c .before in
+    let a = target .before .before .before .before .args in
+    (opcode : ℕ) (test : TargetLimits → Decoded → Bool) (row : TargetLimits) (passed : Bool) (size : ℕ) → opcode ≤ 2 → target .before .opcode-in .result ≡ opcode
     → ((row : TargetLimits) (item : Decoded) → item .opcode ≡ opcode → itemPasses (a .file .now) (a .pools) (a .directory) row item ≡ test row item)
     → row ≡ limitsAt (a .table .now) (target .target-in .result)
     → passed ≡ test row (decodedOperation (a .width) (a .bytes .now))
@@ -53,22 +53,24 @@ way : (c : tie.After-opcode-in) → (
     → _≡_ {A = Quick} (record { passed = passed; size = size }) (quickOperation (a .width) (a .file .now) (a .pools) (a .directory) (a .table .now) (a .bytes .now)))
 unfolding decodedOperation
 way c opcode test row passed size low came by limits p s =
-    let target = c .before .before in
-    let a = target .before .before .before .args in
-    let below : byte (a .bytes .now) 1 < 12 = rw (← (target .target-in .ensures)) (c .before .if1 .left) in
-    let is : byte (a .bytes .now) 0 ≡ opcode = sym (c .opcode-in .ensures) ∙ came in
+    let target = c .before in
+    let a = target .before .before .before .before .args in
+    let below : byte (a .bytes .now) 1 < 12 = rw (← (target .target-in .ensures)) (c .if1 .left) in
+    let is : byte (a .bytes .now) 0 ≡ opcode = sym (target .before .opcode-in .ensures) ∙ came in
     let there = limits ∙ ap (limitsAt (a .table .now)) (target .target-in .ensures) in
     known (a .width) (a .file .now) (a .pools) (a .directory) (a .table .now) (a .bytes .now) passed size opcode below is low
     (p ∙ rw there (sym (by _ (decodedOperation (a .width) (a .bytes .now)) is)))
     s
 
 -- what a way asks: the width, and its opcode
-asked : (c : tie.After-opcode-in) → (
-    let a = c .before .before .before .before .before .args in
-    (opcode : ℕ) → c .opcode-in .result ≡ opcode → (3 ≤ a .width) × (a .width ≤ 4) × (byte (a .bytes .now) 0 ≡ opcode))
+asked : (c : tie.Else1) → (
+    let o = c .before .before in
+    let a = o .before .before .before .args in
+    (opcode : ℕ) → o .opcode-in .result ≡ opcode → (3 ≤ a .width) × (a .width ≤ 4) × (byte (a .bytes .now) 0 ≡ opcode))
 asked c opcode came =
-    let wide = c .before .before .before .before .before .pre in
-    (wide .0, wide .1, sym (c .opcode-in .ensures) ∙ came)
+    let o = c .before .before in
+    let wide = o .before .before .before .pre in
+    (wide .0, wide .1, sym (o .opcode-in .ensures) ∙ came)
 
 returns-2 : tie.Need-returns-2
 returns-2 c =
@@ -96,14 +98,15 @@ returns-4 c =
 returns-5 : tie.Need-returns-5
 unfolding quickOperation decodedOperation
 returns-5 c =
-    let opcode = c .before .before .before .before in
-    let target = opcode .before .before in
-    rw (← (target .target-in .ensures), lt-leb _ _ (opcode .before .if1 .left), ← (opcode .opcode-in .ensures), lt-ltb 2 (opcode .opcode-in .result) (omega arith))
+    let if1 = c .before .before .before .before in
+    let target = if1 .before in
+    let opcode = target .before in
+    rw (← (target .target-in .ensures), lt-leb _ _ (if1 .if1 .left), ← (opcode .opcode-in .ensures), lt-ltb 2 (opcode .opcode-in .result) (omega arith))
 
 pub quick-operation-spec : {M : Type 1} → statement M
 unfolding quickOperation decodedOperation
 quick-operation-spec =
     tie.close
-    (tie.spec (search needs) (search needs) (λ c. rw (← (c .before .target-in .ensures), le-leb _ _ (c .if1 .taken))) (search needs) (search needs) (search needs) (search needs) returns-2
+    (tie.spec (search needs) (search needs) (search needs) (λ c. rw (← (c .before .target-in .ensures), le-leb _ _ (c .if1 .taken))) (search needs) (search needs) (search needs) returns-2
     (search needs) (λ c κs. asked (c .before .before .before) 1 (c .if3 .taken)) (search needs) returns-3 (λ c κs. asked (c .before .before .before .before) 2 (c .if4 .taken)) (search needs)
     returns-4 returns-5)
