@@ -2,7 +2,7 @@
 use base_format::RECORD_SIZE;
 use base_format::WAVE_RECORDS_SIZE;
 use base_format::WAVE_SIZE;
-use repack_put_items::record_at;
+use bytes_operation_size::read_address;
 ghost use mathlib.Core.Path.{_≡_};
 ghost use Prim.Native.Nat.{_+_, _*_, _≤_, _<_};
 ghost use lib.ListN.{length};
@@ -10,24 +10,22 @@ ghost use Rattle.base_format.specs.Repack.{runs, startsWave};
 ghost use Rattle.base_format.specs.Size.{recordSize, waveRecordsSize};
 ghost use Rattle.base_master.specs.Places.{recordsAt};
 
-// Whether 256 records go to one target at consecutive addresses.
+// Whether 256 records go to one target at consecutive addresses. Target and address of a record are compared as one number.
 fn runs_on(records: &[u8], target: u8, address: u32) -> bool
     requires { ⌜ (length (now records) ≡ waveRecordsSize) × (target < 2) × (address < 0x800) ⌝ }
     ensures { λ r. ⌜ r ≡ runs 256 target address (recordsAt (now (records .entry)) 256 0) ⌝ }
 {
     let mut left = WAVE_SIZE;
     let mut place: usize = 0;
-    let mut next = address;
+    let mut head = target as u32 * 0x1000000 + address;
     while 0 < left {
-        let record = record_at(records, place);
-        if record.target != target {
-            return false;
-        }
-        if record.address != next {
+        let record_target = records[place];
+        let record_address = read_address(records, 3, place + 1);
+        if record_target as u32 * 0x1000000 + record_address != head {
             return false;
         }
         place += RECORD_SIZE;
-        next += 1;
+        head += 1;
         left -= 1;
     }
     true
@@ -41,12 +39,11 @@ pub fn starts_wave(file: &[u8], at: usize, left: usize) -> bool
     if left < WAVE_SIZE {
         return false;
     }
-    let record = record_at(file, at);
-    let target = record.target;
+    let target = file[at];
     if 2 <= target {
         return false;
     }
-    let address = record.address;
+    let address = read_address(file, 3, at + 1);
     if 0x800 <= address {
         return false;
     }
