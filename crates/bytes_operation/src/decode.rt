@@ -30,7 +30,7 @@ pub struct Decoded {
     pub size: usize,
 }
 
-// An operation with addresses of a width. Each byte is fetched once, in the file's order: opcode, target, address, and then what the opcode
+// An operation with addresses of a width. Its numbers are fetched in the file's order: opcode, target, address, and then what the opcode
 // says, which is pool, source and length, or length and value, or value.
 pub fn decode_operation(bytes: &[u8], width: usize) -> Decoded
     requires { ⌜ (3 ≤ width) × (width ≤ 4) ⌝ }

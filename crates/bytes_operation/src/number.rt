@@ -1,6 +1,7 @@
 // The numbers of an operation, one by one, in bytes that begin with it. Past the bytes' end every byte reads as 0. What stands behind the
 // address hangs on the opcode: `.._in` asks for it first, `.._by` is given the one that was read. Where the opcode decides where a number
-// stands, it chooses between places, so that there is no branch once it is compiled.
+// stands, it chooses between places, so that there is no branch once it is compiled; what a WRITE has for a length or a COPY for a value is
+// dropped.
 use bytes_operation_size::operation_size;
 use bytes_operation_size::read_address;
 use bytes_read::byte_at;

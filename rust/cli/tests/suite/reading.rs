@@ -65,7 +65,8 @@ fn numbers_are_fetched_in_the_order_of_the_file() {
 fn an_address_is_read_by_one_function() {
     let mut callers = Vec::new();
     for (path, source) in sources() {
-        let names = functions(&source).filter(|(_, body)| calls(body).any(|call| call == "read_u24"));
+        let names =
+            functions(&source).filter(|(_, body)| calls(body).any(|call| call == "read_u24"));
         callers.extend(names.map(|(name, _)| (name.to_owned(), path.clone())));
     }
     let names: Vec<&str> = callers.iter().map(|(name, _)| name.as_str()).collect();
@@ -76,13 +77,25 @@ fn an_address_is_read_by_one_function() {
 #[test]
 fn the_table_beside_the_sheet_names_the_readers_lines() {
     let text = fs::read_to_string(root().join("docs/ARCHITECTURE.md")).unwrap();
-    let section = text.split("\n## Reading an operation beside the sheet\n").nth(1).unwrap();
+    let section = text
+        .split("\n## Reading an operation beside the sheet\n")
+        .nth(1)
+        .unwrap();
     let section = section.split("\n## ").next().unwrap();
-    let rows: Vec<&str> = section.lines().filter(|line| line.contains("| `")).collect();
+    let rows: Vec<&str> = section
+        .lines()
+        .filter(|line| line.contains("| `"))
+        .collect();
     assert_eq!(rows.len(), 8);
     let mut last = 0;
     for row in rows {
-        let mut cell = row.split('|').nth_back(1).unwrap().split('`').skip(1).step_by(2);
+        let mut cell = row
+            .split('|')
+            .nth_back(1)
+            .unwrap()
+            .split('`')
+            .skip(1)
+            .step_by(2);
         let (call, place) = (cell.next().unwrap(), cell.next().unwrap());
         let (file, line) = place.split_once(':').unwrap();
         let line: usize = line.parse().unwrap();
