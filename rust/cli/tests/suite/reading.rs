@@ -1,5 +1,6 @@
 //! The proved code fetches the bytes of an operation in the format sheet's order, as a technician reads them beside it: opcode, target,
-//! address, then what follows. A contract cannot say that, because what is fetched is the same in any order; the text can.
+//! address, then what follows. A contract cannot say that, because what is fetched is the same in any order; the text can. Only the calls of
+//! the reader's functions are seen, not a byte that is taken by its index.
 
 use crate::root;
 use std::fs;
