@@ -1,4 +1,5 @@
-/* The SGUB library: the verdict on a stream file, its cards and its pools, the player, indexes and jumps, repacking, and the comparison.
+/* The SGUB library: the verdict on a stream file, its cards and its pools, the player, indexes and jumps, repacking, the comparison, and
+ * the pitch of a note.
  *
  * Every function takes any bytes, ends, and keeps no pointer. A file is a pointer and a length; a file of length 0 may have any
  * pointer but NULL. What the numbers mean is in the format sheet's list of refusals. */
@@ -231,6 +232,17 @@ struct sgub_compared {
  * nothing. The images overlap neither each other nor a file; an image of 0 bytes may have any pointer but NULL. */
 struct sgub_compared sgub_compare(const uint8_t *master, size_t master_length, const uint8_t *other, size_t other_length,
                                   uint8_t *master_image, size_t master_room, uint8_t *other_image, size_t other_room);
+
+/* The answer for a note. */
+struct sgub_frequency {
+    uint32_t number; /* 0; or 28: the note is above 127, or the shift outside -48 to 48 */
+    uint64_t place;  /* 0: the place of 28 */
+    uint16_t pitch;  /* 1 to 65,535; 0 for a refusal */
+};
+
+/* The pitch register of a note (A4 is 69) shifted by so many semitones: the whole number nearest to 440 * 2^((note + semitones - 69) / 12),
+ * halves going up, and 65,535 where that is exceeded. */
+struct sgub_frequency sgub_frequency(uint8_t note, int8_t semitones);
 
 #ifdef __cplusplus
 }

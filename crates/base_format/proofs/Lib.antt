@@ -10,6 +10,7 @@ pub mod Writes
 pub mod Lent
 pub mod Known
 pub mod Decided
+pub mod Every
 pub mod Sizes
 pub mod Equal
 pub mod Compared

@@ -1,27 +1,15 @@
 -- The sizes of operations, over the width of their addresses.
-use Prim.Native.Nat.{ℕ, zero, suc, _+_, _*_, _-_, _≤_, _<_}
+use Prim.Native.Nat.{ℕ, _+_, _*_, _-_, _≤_, _<_}
 use mathlib.Core.Path.{_≡_, refl}
 use mathlib.Core.Bool.{Bool, true, false, cond, _&&_}
 use mathlib.Core.List.{List, [], _∷_}
-use native.Mathlib.Nat.{le-of-suc-le-suc, not-suc-le-zero}
 use native.Mathlib.Omega.{arith}
 use borrow.Author.Tests.{eqb-true, leb-true}
 use lib.Dec.{eqb, leb, lit≤}
 use lib.ListN.{getD}
 use Rattle.base_format.specs.Operation.{sizes, extras, sizeOf, addressWidth}
 use Rattle.base_format.proofs.Checks.{and-true}
-
--- a test at every number below a bound
-abbrev every : (bound : ℕ) → (ℕ → Bool) → Bool
-every zero test = true
-every (suc bound) test = test 0 && every bound (λ n. test (suc n))
-
--- holds at each
-each : (bound : ℕ) (test : ℕ → Bool) → every bound test ≡ true → (n : ℕ) → n < bound → test n ≡ true
-each zero test e n h = absurd (not-suc-le-zero h)
-each (suc bound) test e zero h = and-true (test 0) (every bound (λ n. test (suc n))) e .0
-each (suc bound) test e (suc n) h =
-    each bound (λ n. test (suc n)) (and-true (test 0) (every bound (λ n. test (suc n))) e .1) n (le-of-suc-le-suc h)
+use Rattle.base_format.proofs.Every.{every, each}
 
 -- the table as two rows
 abbrev pub rows : List (List ℕ)

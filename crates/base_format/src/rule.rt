@@ -29,6 +29,7 @@ pub enum Rule {
     OtherFile,
     OtherIndex,
     NoFrame,
+    NoteRange,
 }
 
 // A refusal: its rule, and the place in the file.

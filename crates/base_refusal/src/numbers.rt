@@ -34,5 +34,6 @@ pub fn number(rule: Rule) -> u32
         Rule::OtherFile => 25,
         Rule::OtherIndex => 26,
         Rule::NoFrame => 27,
+        Rule::NoteRange => 28,
     }
 }

@@ -1,4 +1,2 @@
 pub mod Answer
-pub mod Frames
-pub mod Skipped
 pub mod Walk

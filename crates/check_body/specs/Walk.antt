@@ -10,7 +10,7 @@ use Rattle.base_format.specs.Checked.{Checked, ok, refuse, _>>=_, _>>_}
 use Rattle.base_format.specs.Operation.{Setting}
 use Rattle.base_format.specs.Stream.{openingLimit}
 use Rattle.check_items.specs.Walk.{walked}
-use Rattle.check_body.specs.Frames.{framesSaid}
+use Rattle.check_frames.specs.Frames.{framesSaid}
 
 -- the frames behind an opening, with rule 20
 abbrev pub framesChecked : Setting → Header → List ℕ → Bool → Checked Bool

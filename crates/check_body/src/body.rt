@@ -1,5 +1,4 @@
 // The opening and the frames of a file: the rules 13 to 20.
-use crate::frames::check_frames;
 use crate::opening::check_opening;
 use base_format::CardTable;
 use base_format::Header;
@@ -7,6 +6,7 @@ use base_format::Refusal;
 use base_format::Rule;
 use check_fast_limits::LimitTable;
 use check_fast_limits::limit_table;
+use check_frames::check_frames;
 use check_items::Walked;
 ghost use mathlib.Core.Path.{_≡_};
 ghost use Rattle.base_format.specs.Card.{cardsOf};

@@ -1,7 +1,5 @@
 // The opening and the frames of a file: the rules 13 to 20.
 mod body;
-mod empty_frames;
-mod frames;
 mod opening;
 
 pub use body::BodyRead;

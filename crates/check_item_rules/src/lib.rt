@@ -1,8 +1,7 @@
-// The rules 15 to 19, for a record or an operation whose numbers are read and whose target is found.
-mod allowed;
+// The rules 15 to 19, for a WRITE, a FILL and a COPY whose numbers are read and whose target is found.
 mod copy;
 mod rules;
 
-pub use allowed::OperationRead;
-pub use allowed::allow;
-pub use allowed::target_number;
+pub use copy::check_copy;
+pub use rules::check_fill;
+pub use rules::check_write;

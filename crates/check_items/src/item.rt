@@ -3,10 +3,10 @@ use crate::operation::read_operation;
 use crate::record::read_record;
 use base_format::CardTable;
 use base_format::Header;
-use check_item_rules::OperationRead;
+use check_item_allowed::OperationRead;
 ghost use mathlib.Core.Path.{_≡_};
 ghost use Rattle.base_format.specs.Operation.{settingOf, itemAt};
-ghost use Rattle.check_item_rules.specs.Answer.{itemOf};
+ghost use Rattle.check_item_allowed.specs.Answer.{itemOf};
 
 // The record or operation at a place, by the version.
 pub fn read_item(

@@ -4,7 +4,7 @@ mod operation;
 mod record;
 mod walk;
 
-pub use check_item_rules::OperationRead;
+pub use check_item_allowed::OperationRead;
 pub use item::read_item;
 pub use walk::Walked;
 pub use walk::check_operations;

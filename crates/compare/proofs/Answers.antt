@@ -21,13 +21,9 @@ use Rattle.base_format.proofs.Checks.{ok-is, refused-not-ok}
 use Rattle.base_format.proofs.Compared.{version-read, reads-version}
 use Rattle.base_master.proofs.Master.{IsMaster, is-master}
 use Rattle.compare_image_bytes.proofs.Image.{played-length}
-use Rattle.compare.specs.Accepted.{FramesWithin, masterDrawn, otherDrawn, agreeBy, Drawn}
+use Rattle.compare_accepted.specs.Accepted.{FramesWithin, masterDrawn, otherDrawn, agreeBy, Drawn}
 use Rattle.compare.specs.Answer.{versionHeader, ComparedWith}
-use Rattle.compare.proofs.Streams.{agree-is, master-image, other-image}
-
-pub beq-true : (b : Bool) → b ≡ Bool·beq true b
-beq-true true = refl
-beq-true false = refl
+use Rattle.compare_accepted.proofs.Streams.{agree-is, master-image, other-image}
 
 -- A FILE OF A VERSION
 

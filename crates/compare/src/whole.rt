@@ -1,11 +1,11 @@
 // The comparison of any two files.
-use crate::accepted::compare_accepted;
 use crate::version::VersionCheck;
 use crate::version::check_version;
 use base_format::Header;
 use base_format::PCM_SIZE;
 use base_format::Refusal;
 use base_format::Rule;
+use compare_accepted::compare_accepted;
 ghost use mathlib.Core.Path.{_≡_};
 ghost use Rattle.base_format.specs.Checked.{ok};
 ghost use Rattle.base_format.specs.Compare.{agreed};

@@ -3,8 +3,8 @@ use mathlib.Core.Path.{_≡_, refl}
 use Rattle.base_format.specs.declared.player.StreamPlayer.{StreamPlayer}
 use Rattle.base_format.specs.Checked.{Checked, ok, refused, mapped}
 use Rattle.base_format.specs.Jump.{stateAfter}
-use Rattle.play_plan_jump.specs.declared.JumpPlan.{JumpPlan}
-use Rattle.play_plan_jump.specs.Told.{jumpTold}
+use Rattle.play_jump_accepted.specs.declared.JumpPlan.{JumpPlan}
+use Rattle.play_jump_accepted.specs.Told.{jumpTold}
 use Rattle.play_jump.specs.declared.Jumped.{Jumped}
 use Rattle.play_jump.specs.Jumped.{jumpedOf}
 

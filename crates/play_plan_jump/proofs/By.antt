@@ -23,7 +23,7 @@ use Rattle.index_laws.proofs.Places.{frame-count}
 use Rattle.play_jump_belongs.specs.Foreign.{foreignJump}
 use Rattle.play_jump_belongs.proofs.Foreign.{jump-foreign-is}
 use Rattle.play_start.specs.Start.{verdictIn}
-use Rattle.play_plan_jump.specs.Told.{foundBy, jumpedBy}
+use Rattle.play_jump_accepted.specs.Told.{foundBy, jumpedBy}
 
 -- an accepted file
 module _ (state : StreamPlayer) (file index : List ℕ) (frame : ℕ) (s : Stream) (e : read file ≡ ok s) (bytes : AllBytes index) where

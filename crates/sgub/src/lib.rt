@@ -1,14 +1,15 @@
 // The static library's surface: include/sgub.h declares these functions for C, rust/sgub for Rust. What an answer is as plain numbers
-// is in the crates sgub_answers and sgub_pool_list.
+// is in the crates sgub_answers, sgub_player, sgub_pool_list, sgub_results and sgub_pitch.
 mod comparison;
 mod indexing;
+mod pitch;
 mod player;
 mod pools;
 mod repacking;
 
 pub use comparison::sgub_compare;
 pub use indexing::sgub_index;
-pub use player::SgubStarted;
+pub use pitch::sgub_frequency;
 pub use player::sgub_advance_vsync;
 pub use player::sgub_jump;
 pub use player::sgub_start;

@@ -1,50 +1,23 @@
 // The player for C and Rust: its start, and one vsync call and one jump over a lent state.
 use base_format::StreamPlayer;
-use base_format::Verdict;
 use base_format::WaveSource;
 use base_format::WriteRecord;
 use play::Vsync;
 use play_jump::Jumped;
-use play_wave_source::CopiedPool;
-use play_wave_source::wave_source;
+use sgub_player::SgubStarted;
 ghost use mathlib.Core.Path.{_≡_};
 ghost use Rattle.base_format.specs.State.{started, waveSource};
 ghost use Rattle.base_format.specs.Stream.{read};
 ghost use Rattle.play_jump.specs.Jumped.{JumpMade};
 ghost use Rattle.play_start.specs.Start.{verdictIn};
 ghost use Rattle.play_planned.specs.Vsync.{Advanced};
-ghost use Rattle.sgub.specs.Player.{startFields, sourceFields};
-
-// The verdict on a file, and the player's state; that of a refused file is finished.
-#[repr(C)]
-pub struct SgubStarted {
-    pub number: u32,
-    pub place: u64,
-    pub player: StreamPlayer,
-}
+ghost use Rattle.sgub_player.specs.Player.{startFields, sourceFields};
 
 #[no_mangle]
 pub extern "C" fn sgub_start(file: &[u8]) -> SgubStarted
     ensures { λ r. ⌜ r ≡ startFields (verdictIn (read (now (file .entry)))) (started (now (file .entry))) ⌝ }
 {
-    let found = play_start::start(file);
-    let player = found.state;
-    let verdict = found.verdict;
-    match verdict {
-        Verdict::Allowed => SgubStarted {
-            number: 0,
-            place: 0,
-            player: player,
-        },
-        Verdict::Refused(refusal) => {
-            let rule = refusal.rule;
-            SgubStarted {
-                number: base_refusal::number(rule),
-                place: refusal.place as u64,
-                player: player,
-            }
-        }
-    }
+    sgub_player::started_of(play_start::start(file))
 }
 
 // `advance_vsync` itself, under its exported name. A refused call changes nothing.
@@ -77,14 +50,5 @@ pub extern "C" fn sgub_jump(
 pub extern "C" fn sgub_wave_source(player: StreamPlayer, core: usize, channel: usize) -> WaveSource
     ensures { λ r. ⌜ r ≡ sourceFields (waveSource player core channel) ⌝ }
 {
-    match wave_source(player, core, channel) {
-        CopiedPool::None => WaveSource {
-            copied: false,
-            pool: 0,
-        },
-        CopiedPool::Pool(id) => WaveSource {
-            copied: true,
-            pool: id,
-        },
-    }
+    sgub_player::source_of(play_wave_source::wave_source(player, core, channel))
 }

@@ -5,15 +5,11 @@ use lib.ListN.{getD}
 use Rattle.base_format.specs.declared.header.Header.{Header}
 use Rattle.base_format.specs.declared.pool.Pool.{Pool}
 use Rattle.base_format.specs.Checked.{Checked, ok, refused}
-use Rattle.base_format.specs.Compare.{Compared, agreed, refusedFile}
 use Rattle.base_format.specs.State.{noCard}
 use Rattle.check_file.specs.Answer.{Recorded}
 use Rattle.sgub_answers.specs.declared.verdict.SgubVerdict.{SgubVerdict}
 use Rattle.sgub_answers.specs.declared.card.SgubCard.{SgubCard}
 use Rattle.sgub_answers.specs.declared.pool.SgubPool.{SgubPool}
-use Rattle.sgub_answers.specs.declared.indexed.SgubIndexed.{SgubIndexed}
-use Rattle.sgub_answers.specs.declared.repacked.SgubRepacked.{SgubRepacked}
-use Rattle.sgub_answers.specs.declared.comparison.SgubCompared.{SgubCompared}
 
 -- an accepted file: number 0
 abbrev pub acceptedAs : Header → (uses : Bool) → SgubVerdict
@@ -72,16 +68,3 @@ poolOn (refused number place) = record { number = number; place = place; kind = 
 abbrev pub kindIn : Checked ℕ → ℕ
 kindIn (ok kind) = kind
 kindIn (refused number place) = 0
-
-abbrev pub repackedOn : Checked ℕ → SgubRepacked
-repackedOn (ok size) = record { number = 0; place = 0; size = size }
-repackedOn (refused number place) = record { number = number; place = place; size = 0 }
-
-abbrev pub indexedOn : Checked ℕ → SgubIndexed
-indexedOn (ok size) = record { number = 0; place = 0; size = size }
-indexedOn (refused number place) = record { number = number; place = place; size = 0 }
-
--- a refusal with the file that it names, 1 for the master and 2 for the other, and 0 where none is refused
-abbrev pub comparedOn : Compared → SgubCompared
-comparedOn (agreed passed) = record { file = 0; number = 0; place = 0; passed = passed }
-comparedOn (refusedFile file number place) = record { file = file; number = number; place = place; passed = false }

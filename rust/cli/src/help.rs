@@ -4,7 +4,8 @@ use crate::status::{Failure, Status};
 use std::io::Write;
 
 const HELP: &str = "\
-sgub checks, plays, indexes, repacks and compares SGUB music streams.
+sgub checks, plays, indexes, repacks and compares SGUB music streams, and has the pitches of
+notes.
 
   sgub check FILE...         print a line for each file:
                                accepted VERSION FRAMES OPENING
@@ -12,7 +13,7 @@ sgub checks, plays, indexes, repacks and compares SGUB music streams.
   sgub explain [--all] FILE  print the line and what is behind it: for a refused file
                              the rule that it breaks and the bytes at the place, for an
                              accepted one its header, cards and pools (--all: every pool)
-  sgub explain NUMBER        print the rule of a refusal, 1 to 27, with its limits, what its
+  sgub explain NUMBER        print the rule of a refusal, 1 to 28, with its limits, what its
                              place is and which commands print it; a file whose name is
                              a number is given as ./16
   sgub play [OPTION]... FILE print the writes of one pass and of the end: for each call
@@ -43,14 +44,18 @@ sgub checks, plays, indexes, repacks and compares SGUB music streams.
                                failed, and a line that says where they first differ
                                refused master NUMBER PLACE
                                refused other NUMBER PLACE
+  sgub pitch NOTE [SHIFT]    print the pitch register of a note, 0 to 127 (A4 is 69), shifted by
+                             so many semitones, -48 to 48, or
+                               refused 28 0
+  sgub pitch                 print a table of all notes with their names and pitches
   sgub help                  print this text
   sgub --version             print the version of this command
 
 FILE - is standard input. Behind -- every argument is a file.
 
-Exit status: 0 every file is accepted, 1 a file is refused or a comparison failed, 2 could
-not run: a file that cannot be read (the others are still checked) or written, or a
-command that is not understood.
+Exit status: 0 every file is accepted, 1 a file or a note is refused or a comparison
+failed, 2 could not run: a file that cannot be read (the others are still checked) or
+written, or a command that is not understood.
 ";
 
 /// Prints the commands.

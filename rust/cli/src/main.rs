@@ -9,6 +9,7 @@ mod help;
 mod index;
 mod input;
 mod output;
+mod pitch;
 mod play;
 mod repack;
 mod status;
@@ -38,6 +39,7 @@ fn run(arguments: &[OsString], out: &mut impl Write) -> Result<Status, Failure> 
         Some("compare") => compare::run(arguments, out),
         Some("explain") => explain::run(arguments, out),
         Some("index") => index::run(arguments, out),
+        Some("pitch") => pitch::run(arguments, out),
         Some("play") => play::run(arguments, out),
         Some("repack") => repack::run(arguments, out),
         Some("help" | "--help" | "-h") => help::help(out),

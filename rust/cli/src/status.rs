@@ -9,7 +9,7 @@ use std::process::ExitCode;
 pub enum Status {
     /// Every file is accepted, the result is written, the comparison passed, or what was asked for is printed.
     Accepted = 0,
-    /// A file is refused, or the comparison failed.
+    /// A file or a note is refused, or the comparison failed.
     Refused = 1,
     /// A file could not be read or written, or the command could not be understood.
     CouldNotRun = 2,

@@ -11,6 +11,7 @@ pub mod jumps;
 pub mod lent;
 pub mod model;
 pub mod oracle;
+pub mod pitches;
 pub mod plays;
 pub mod repacks;
 pub mod rng;

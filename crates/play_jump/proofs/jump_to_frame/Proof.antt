@@ -46,10 +46,10 @@ use Rattle.base_format.specs.declared.player.StreamPlayer.{StreamPlayer}
 use Rattle.base_format.specs.Jump.{jumped}
 use Rattle.base_format.proofs.player.StreamPlayer as P
 use Rattle.base_format.proofs.player.StreamPlayer.Laws as P′
-use Rattle.play_plan_jump.specs.declared.JumpPlan.{JumpPlan}
-use Rattle.play_plan_jump.specs.Told.{jumpTold}
-use Rattle.play_plan_jump.proofs.JumpPlan as S
-use Rattle.play_plan_jump.proofs.JumpPlan.Laws as S′
+use Rattle.play_jump_accepted.specs.declared.JumpPlan.{JumpPlan}
+use Rattle.play_jump_accepted.specs.Told.{jumpTold}
+use Rattle.play_jump_accepted.proofs.JumpPlan as S
+use Rattle.play_jump_accepted.proofs.JumpPlan.Laws as S′
 use Rattle.play_plan_jump.proofs.plan_jump as pj
 use Rattle.play_plan_jump.proofs.plan_jump.Symbol as pj-def
 use Rattle.play_plan_jump.proofs.plan_jump.Symbol.{name as #play-plan-jump·plan-jump}

@@ -4,7 +4,7 @@ use mathlib.Core.Path.{sym, ap, _∙_}
 use Rattle.base_format.specs.declared.player.StreamPlayer.{StreamPlayer}
 use Rattle.base_format.specs.Bytes.{AllBytes}
 use Rattle.base_format.specs.Rule.{verdictOf}
-use Rattle.play_plan_jump.specs.Told.{jumpTold, jumpedBy}
+use Rattle.play_jump_accepted.specs.Told.{jumpTold, jumpedBy}
 use Rattle.play_plan_jump.proofs.By.{planned-accepted, planned-refused}
 use Rattle.play_plan_jump.proofs.plan_jump.Statement.{statement}
 use Rattle.play_plan_jump.proofs.plan_jump.Tie as tie

@@ -190,3 +190,10 @@ pub const FRAMES: &str = "\
 Frames are counted from 1 on. sgub check prints their number behind the version:
   accepted VERSION FRAMES OPENING
 ";
+
+/// Which notes and shifts there are, for rule 28.
+pub const NOTES: &str = "\
+Notes are counted from 0, which is C-1, to 127, which is G9; A4 is 69. A number below 0
+is no note either. sgub pitch prints all notes with their names and pitches:
+  sgub pitch
+";

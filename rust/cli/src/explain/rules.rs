@@ -1,4 +1,4 @@
-//! The refusals 1 to 27 in words for whoever has to mend a file. The format sheet decides; docs/RULES.md has the same words.
+//! The refusals 1 to 28 in words for whoever has to mend a file. The format sheet decides; docs/RULES.md has the same words.
 
 use super::details;
 use super::text::wrapped;
@@ -76,7 +76,7 @@ const fn beside(
     }
 }
 
-const RULES: [Rule; 27] = [
+const RULES: [Rule; 28] = [
     // 1
     check(
         "The file is too short for its header, which has 48 bytes if there is a byte 4 and it is 4, 40 bytes if it \
@@ -245,6 +245,12 @@ const RULES: [Rule; 27] = [
         "play --from",
         &[details::FRAMES],
     ),
+    // 28
+    beside(
+        "Asking for a pitch only: the note is above 127, or the shift is outside of -48 to 48 semitones.",
+        "pitch",
+        &[details::NOTES],
+    ),
 ];
 
 #[cfg(test)]
@@ -255,10 +261,10 @@ mod tests {
     use std::path::Path;
 
     #[test]
-    fn there_are_27() {
-        assert!(rule(0).is_none() && rule(28).is_none());
+    fn there_are_28() {
+        assert!(rule(0).is_none() && rule(29).is_none());
         assert!(rule(4).unwrap().words.contains("voice count"));
-        assert_eq!(LAST, 27);
+        assert_eq!(LAST, 28);
     }
 
     #[test]

@@ -8,6 +8,7 @@ mod explain;
 mod index;
 mod input;
 mod launcher;
+mod pitch;
 mod play;
 mod play_from;
 mod reading;

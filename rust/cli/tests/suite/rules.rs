@@ -28,7 +28,7 @@ fn what_a_row_names_is_there() {
             assert!(exists(path), "{path}");
         }
     }
-    assert_eq!(rows.len(), 27);
+    assert_eq!(rows.len(), 28);
 }
 
 fn exists(path: &str) -> bool {
@@ -40,12 +40,14 @@ fn quoted(text: &str) -> impl Iterator<Item = &str> {
     text.split('`').skip(1).step_by(2)
 }
 
-/// Groups such as `` `first`, `second` (File) ``: the file of base_format's definitions has each of the names.
+/// Groups such as `` `first`, `second` (File) ``: the file of base_format's definitions has each of the names. A file of another
+/// crate's is named with it, `(crate/File)`.
 #[track_caller]
 fn hold_definitions(cell: &str) {
     for group in cell.split_terminator(')') {
         let (names, file) = group.split_once('(').unwrap();
-        let path = format!("crates/base_format/specs/{file}.antt");
+        let (owner, file) = file.split_once('/').unwrap_or(("base_format", file));
+        let path = format!("crates/{owner}/specs/{file}.antt");
         let text = fs::read_to_string(root().join(&path)).unwrap();
         for name in quoted(names) {
             assert!(text.contains(&format!("pub {name} :")), "{name} in {path}");

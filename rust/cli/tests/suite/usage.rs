@@ -70,6 +70,8 @@ fn help_names_every_command() {
         "index FILE [INDEX]",
         "repack MASTER RESULT",
         "compare MASTER OTHER",
+        "pitch NOTE [SHIFT]",
+        "pitch",
         "help",
         "--version",
     ] {

@@ -1,4 +1,4 @@
-//! What the original says about a file: its verdict, its writes vsync by vsync, its repacking.
+//! What the original says about a file: its verdict, its writes vsync by vsync, its repacking; and the pitches of its compiler.
 
 pub mod messages;
 pub mod survey;
@@ -251,6 +251,11 @@ fn advance(stream: &mut StreamPlayer, cores: &Cores) {
 /// give a file, fail, panic, or ask for memory by a count in the header: see [`asks_for_too_much`].
 pub fn repack(master: &[u8]) -> Result<Vec<u8>, String> {
     stream::repack(master.to_vec()).map_err(|error| error.to_string())
+}
+
+/// `frequency` without a base note: the pitch register of a note and a shift. It takes any numbers.
+pub fn frequency(note: u8, semitones: i8) -> u16 {
+    stream::note_frequency(note, semitones)
 }
 
 /// Whether a count in the header makes [`repack`] reserve memory for more items than the file can hold, up to 103 GB.

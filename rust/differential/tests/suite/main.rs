@@ -6,6 +6,7 @@ mod generators;
 mod indexes;
 mod jumps;
 mod oracle;
+mod pitches;
 mod plays;
 mod repacks;
 mod sheet;

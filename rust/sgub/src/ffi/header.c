@@ -16,6 +16,7 @@ struct sgub_repacked sgub_repack(const unsigned char *, unsigned long, unsigned 
 struct sgub_compared sgub_compare(
     const unsigned char *, unsigned long, const unsigned char *, unsigned long,
     unsigned char *, unsigned long, unsigned char *, unsigned long);
+struct sgub_frequency sgub_frequency(unsigned char, signed char);
 
 /* P3 of the format sheet, and P3 with another version. */
 int main(void) {
@@ -62,6 +63,12 @@ int main(void) {
     jumped = sgub_jump(&started.player, file, sizeof file, index, 16, 1);
     if (jumped.number != 0 || jumped.place != 0 || !started.player.progress.initialized)
         return 16;
+    struct sgub_frequency frequency = sgub_frequency(69, -12);
+    if (frequency.number != 0 || frequency.place != 0 || frequency.pitch != 220)
+        return 17;
+    frequency = sgub_frequency(69, -49);
+    if (frequency.number != 28 || frequency.place != 0 || frequency.pitch != 0)
+        return 18;
     file[4] = 5;
     verdict = sgub_check(file, sizeof file);
     if (verdict.number != 3 || verdict.place != 0 || verdict.version != 0)

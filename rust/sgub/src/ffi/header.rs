@@ -2,6 +2,7 @@
 
 use super::comparison::Compared;
 use super::index::{Indexed, Jumped};
+use super::pitch::Frequency;
 use super::repack::Repacked;
 use super::{
     Card, CardRequirement, CardTable, Header, Player, Pool, Pools, Progress, Started, Verdict,
@@ -38,7 +39,7 @@ fn size_of_field<S, F>(_: fn(&S) -> &F) -> usize {
     size_of::<F>()
 }
 
-fn layouts() -> [Layout; 18] {
+fn layouts() -> [Layout; 19] {
     [
         layout!(
             "sgub_verdict",
@@ -187,6 +188,14 @@ fn layouts() -> [Layout; 18] {
                 number,
                 place,
                 passed,
+            }
+        ),
+        layout!(
+            "sgub_frequency",
+            Frequency {
+                number,
+                place,
+                pitch,
             }
         ),
     ]

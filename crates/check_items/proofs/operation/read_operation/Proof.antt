@@ -15,7 +15,7 @@ use Rattle.base_format.proofs.Sizes.{width-range}
 use Rattle.bytes_operation.specs.declared.decode.Decoded.{Decoded}
 use Rattle.bytes_operation.specs.Decoded.{decodedOperation, operationOf}
 use Rattle.bytes_operation.proofs.Laws as law
-use Rattle.check_item_rules.proofs.Target.{allowed-at}
+use Rattle.check_item_allowed.proofs.Target.{allowed-at}
 use Rattle.check_items.proofs.operation.read_operation.Statement.{statement}
 use Rattle.check_items.proofs.operation.read_operation.Tie as tie
 

@@ -12,7 +12,7 @@ use Rattle.base_format.specs.Operation.{recordAt}
 use Rattle.bytes_operation.specs.declared.decode.Decoded.{Decoded}
 use Rattle.bytes_operation.specs.Decoded.{decodedRecord, operationOf}
 use Rattle.bytes_operation.proofs.Laws.{record-at}
-use Rattle.check_item_rules.proofs.Target.{allowed-at}
+use Rattle.check_item_allowed.proofs.Target.{allowed-at}
 use Rattle.check_items.proofs.record.read_record.Statement.{statement}
 use Rattle.check_items.proofs.record.read_record.Tie as tie
 

@@ -1,6 +1,6 @@
 -- `sgub::comparison::sgub_compare` meets its contract: it is the answer of `compare` as numbers, and both images are as `compare` leaves them.
 use mathlib.Core.Path.{ap, _∙_}
-use Rattle.sgub_answers.specs.Surface.{comparedOn}
+use Rattle.sgub_results.specs.Surface.{comparedOn}
 use borrow.Author.Needs.{needs}
 use Rattle.sgub.proofs.comparison.sgub_compare.Statement.{statement}
 use Rattle.sgub.proofs.comparison.sgub_compare.Tie as tie

@@ -1,6 +1,6 @@
 -- `sgub::indexing::sgub_index` meets its contract: it is the answer of `build_index` as numbers, and the buffer is as that leaves it.
 use mathlib.Core.Path.{ap, _∙_}
-use Rattle.sgub_answers.specs.Surface.{indexedOn}
+use Rattle.sgub_results.specs.Surface.{indexedOn}
 use borrow.Author.Needs.{needs}
 use Rattle.sgub.proofs.indexing.sgub_index.Statement.{statement}
 use Rattle.sgub.proofs.indexing.sgub_index.Tie as tie

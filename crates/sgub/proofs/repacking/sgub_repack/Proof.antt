@@ -1,6 +1,6 @@
 -- `sgub::repacking::sgub_repack` meets its contract: it is the answer of `compile_song_v2` as numbers, and the buffer is as that leaves it.
 use mathlib.Core.Path.{ap, _∙_}
-use Rattle.sgub_answers.specs.Surface.{repackedOn}
+use Rattle.sgub_results.specs.Surface.{repackedOn}
 use borrow.Author.Needs.{needs}
 use Rattle.sgub.proofs.repacking.sgub_repack.Statement.{statement}
 use Rattle.sgub.proofs.repacking.sgub_repack.Tie as tie

@@ -8,6 +8,7 @@ mod files;
 mod indexes;
 mod jumps;
 mod oracle;
+mod pitches;
 mod plays;
 mod repacks;
 mod selftest;
@@ -31,13 +32,15 @@ const USAGE: &str = "usage: differential verdict FILE...
        differential compare-vectors DIRECTORY COUNT
        differential index-vectors DIRECTORY COUNT
        differential jump-vectors DIRECTORY COUNT
+       differential pitch-vectors DIRECTORY
        differential verdicts COUNT [SEED]
        differential plays COUNT [SEED]
        differential repacks COUNT [SEED]
        differential compares COUNT [SEED]
        differential indexes COUNT [SEED]
        differential jumps COUNT [SEED]
-       differential bench [play | repack | compare | jump]
+       differential pitches
+       differential bench [play | repack | compare | jump | pitch]
        differential selftest [COUNT]
        differential speed [COUNT]";
 
@@ -84,16 +87,19 @@ fn run(arguments: &[&str], out: &mut impl Write) -> Answer {
             indexes::write_vectors(directory, count.parse()?, out)
         }
         ["jump-vectors", directory, count] => jumps::write_vectors(directory, count.parse()?, out),
+        ["pitch-vectors", directory] => pitches::write_vectors(directory, out),
         ["verdicts", numbers @ ..] => verdicts::compare(amount(numbers)?, out),
         ["plays", numbers @ ..] => plays::compare(amount(numbers)?, out),
         ["repacks", numbers @ ..] => repacks::compare(amount(numbers)?, out),
         ["compares", numbers @ ..] => comparisons::compare(amount(numbers)?, out),
         ["indexes", numbers @ ..] => indexes::compare(amount(numbers)?, out),
         ["jumps", numbers @ ..] => jumps::compare(amount(numbers)?, out),
+        ["pitches"] => pitches::compare(out),
         ["bench"] => bench::verdicts::bench(out),
         ["bench", "play"] => bench::plays::bench(out),
         ["bench", "repack"] => bench::repacks::bench(out),
         ["bench", "jump"] => bench::jumps::bench(out),
+        ["bench", "pitch"] => bench::pitches::bench(out),
         ["bench", "compare"] => bench::comparisons::bench(out),
         ["selftest"] => selftest::selftest(1000, out),
         ["selftest", count] => selftest::selftest(count.parse()?, out),

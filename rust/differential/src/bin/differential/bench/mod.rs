@@ -2,6 +2,7 @@
 
 pub mod comparisons;
 pub mod jumps;
+pub mod pitches;
 pub mod plays;
 pub mod repacks;
 pub mod verdicts;
