@@ -17,11 +17,11 @@ unfolding twelfth
 twelfth-mono s h = mul-le-mul-right _ (pow-le-pow-left h 12)
 
 -- the two halves of the rule
-record Meets (s : ℤ) (f : ℕ) : Type 0 where
-  left : twelfth s (2 * f - 1) ≤ middle s
-  right : f < 65535 → middle s < twelfth s (2 * f + 1)
+pub record Meets (s : ℤ) (f : ℕ) : Type 0 where
+  pub left : twelfth s (2 * f - 1) ≤ middle s
+  pub right : f < 65535 → middle s < twelfth s (2 * f + 1)
 
-meets : (s : ℤ) (f : ℕ) → isPitch s f ≡ true → Meets s f
+pub meets : (s : ℤ) (f : ℕ) → isPitch s f ≡ true → Meets s f
 unfolding isPitch
 meets s f e =
     let both = and-true _ _ e in
