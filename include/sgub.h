@@ -240,8 +240,8 @@ struct sgub_frequency {
     uint16_t pitch;  /* 1 to 65,535; 0 for a refusal */
 };
 
-/* The pitch register of a note (A4 is 69) shifted by so many semitones: the whole number nearest to 440 * 2^((note + semitones - 69) / 12),
- * halves going up, and 65,535 where that is exceeded. */
+/* The pitch register of a note (A4 is 69) shifted by so many semitones: 440 * 2^((note + semitones - 69) / 12), rounded to a whole number, a
+ * half upward, but never more than 65,535. */
 struct sgub_frequency sgub_frequency(uint8_t note, int8_t semitones);
 
 #ifdef __cplusplus

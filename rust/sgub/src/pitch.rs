@@ -2,8 +2,8 @@
 
 use crate::{Refusal, ffi, refusal};
 
-/// The pitch register of a note shifted by so many semitones: the whole number nearest to
-/// 440 × 2^((note + semitones − 69) / 12), halves going up, and 65,535 where that is exceeded.
+/// The pitch register of a note shifted by so many semitones: 440 × 2^((note + semitones − 69) / 12), rounded to a whole
+/// number, a half upward, but never more than 65,535.
 ///
 /// # Errors
 /// 28 where the note is above 127, or the shift outside −48 to 48.
