@@ -1,24 +1,22 @@
--- What the range of notes and shifts decides: out of it the answer is refusal 28, and within it the place of the sum is a place of the list.
+-- What the range of notes and shifts decides: the answer, and within it how far a shift is above −48.
 use Prim.Native.Nat.{ℕ, suc, _+_, _-_, _≤_}
-use mathlib.Core.Path.{_≡_, refl, sym, ap, _∙_}
-use mathlib.Core.Bool.{Bool, true, false, _||_}
+use mathlib.Core.Path.{_≡_, refl, ap}
+use mathlib.Core.Bool.{Bool, false, _||_}
 use native.Mathlib.Omega.{arith}
 use borrow.Author.Tests.{ltb-false, le-ltb}
 use lib.Dec.{ltb}
-use lib.IntN.{ℤ, pos, negsuc, _+ℤ_, _-ℤ_, negℤ, +ℤ-assoc, +ℤ-negℤ-cancel}
+use lib.IntN.{ℤ, pos, negsuc, _+ℤ_}
 use lib.Signed.{ltZ}
-use Rattle.base_format.specs.Checked.{ok, refused, refuse, _>>_}
+use Rattle.base_format.specs.Checked.{ok, refuse, _>>_}
 use Rattle.base_format.proofs.Checks.{or-false, cond-false}
-use Rattle.pitch_table.specs.Pitch.{pitchOf, sumAt}
+use Rattle.pitch_table.specs.Pitch.{pitchOf}
 use Rattle.pitch_frequency.specs.Frequency.{outOfRange, frequencyOf}
 
-pub refused-outside : (note : ℕ) (semitones : ℤ) → outOfRange note semitones ≡ true → frequencyOf note semitones ≡ refused 28 0
+-- the answer by the test of the range
+pub by-range : (note : ℕ) (semitones : ℤ) (outside : Bool) → outOfRange note semitones ≡ outside
+    → frequencyOf note semitones ≡ (refuse 28 0 outside >> ok (pitchOf (pos note +ℤ semitones)))
 unfolding frequencyOf
-refused-outside note semitones e = ap (λ (b : Bool). refuse 28 0 b >> ok (pitchOf (pos note +ℤ semitones))) e
-
-pub pitch-within : (note : ℕ) (semitones : ℤ) → outOfRange note semitones ≡ false → frequencyOf note semitones ≡ ok (pitchOf (pos note +ℤ semitones))
-unfolding frequencyOf
-pitch-within note semitones e = ap (λ (b : Bool). refuse 28 0 b >> ok (pitchOf (pos note +ℤ semitones))) e
+by-range note semitones outside e = ap (λ (b : Bool). refuse 28 0 b >> ok (pitchOf (pos note +ℤ semitones))) e
 
 -- a shift within the range is so many steps above −48
 pub record Shifted (semitones : ℤ) : Type 0 where
@@ -42,8 +40,3 @@ in-range note semitones e =
     let high = or-false (ltb 127 note || ltZ semitones (negsuc 47)) (ltZ (pos 48) semitones) e in
     let low = or-false (ltb 127 note) (ltZ semitones (negsuc 47)) (high .0) in
     record { note-most = ltb-false 127 note (low .0); shifted = by-sign semitones (low .1) (high .1) }
-
--- the sum at the place of the note and these steps is that of the note and the shift
-pub sum-at : (note : ℕ) (semitones : ℤ) (steps : ℕ) → semitones +ℤ pos 48 ≡ pos steps → sumAt (note + steps) ≡ pos note +ℤ semitones
-sum-at note semitones steps is =
-    +ℤ-assoc (pos note) (pos steps) (negℤ (pos 48)) ∙ ap (λ (z : ℤ). pos note +ℤ z) (ap (λ (z : ℤ). z -ℤ pos 48) (sym is) ∙ +ℤ-negℤ-cancel semitones (pos 48))

@@ -1,3 +1,4 @@
 pub mod Rule
 pub mod Positive
+pub mod Sum
 pub mod Table

@@ -22,6 +22,7 @@ below-69 : (n : ℕ) → exponent (pos 69 -ℤ pos n) ≤ 117
 below-69 zero = lit≤ tt
 below-69 (suc n) = le-trans (exponent-of 69 (suc n)) (lit≤ tt)
 
+-- the power that is moved across is 2^117 at most: 69 is 117 above −48
 moved-most : (place : ℕ) → exponent (pos 69 -ℤ sumAt place) ≤ 117
 moved-most place = go (ltb place 48)
   where

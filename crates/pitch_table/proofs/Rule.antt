@@ -68,6 +68,7 @@ search-meets s (suc count) f end left = go (isPitch s f) refl (search-meets s co
     go true t rest = t
     go false t rest = rest (next t)
 
+-- the search goes no further than to 65,535
 search-most : (s : ℤ) (count f : ℕ) → pitchFrom s count f ≤ f + count
 search-most s zero f = omega arith
 search-most s (suc count) f = go (isPitch s f) (search-most s count (suc f))

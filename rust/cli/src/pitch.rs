@@ -4,12 +4,12 @@ use crate::status::{Failure, Status};
 use std::ffi::{OsStr, OsString};
 use std::io::Write;
 
-/// The notes of an octave.
+/// The names of an octave's notes.
 const NAMES: [&str; 12] = [
     "C", "C#", "D", "D#", "E", "F", "F#", "G", "G#", "A", "A#", "B",
 ];
 
-/// Notes of an octave.
+/// How many they are.
 const OCTAVE: usize = NAMES.len();
 
 /// Notes in a column of the table: three octaves, so that four columns have room for all.

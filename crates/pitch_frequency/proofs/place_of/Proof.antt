@@ -8,7 +8,8 @@ use lib.Signed.{nonNeg}
 use mir.Syntax.{w8, w64}
 use mir.Val.{Fits, SFits, toZ, ofZ}
 use mir.ValLaws.{toZ-ofZ}
-use Rattle.pitch_frequency.proofs.Range.{InRange, in-range, sum-at}
+use Rattle.pitch_table.proofs.Sum.{sum-at}
+use Rattle.pitch_frequency.proofs.Range.{InRange, in-range}
 use Rattle.pitch_frequency.proofs.place_of.Statement.{statement}
 use Rattle.pitch_frequency.proofs.place_of.Tie as tie
 
