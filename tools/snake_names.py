@@ -125,6 +125,12 @@ def main():
         DEFINITIONS.update(plain(n) for n in own[module_of(p)] if n[0].islower() and CAMEL.search(n))
     for names in own.values():
         everywhere |= {n for n in names if turns(n)}
+    # What a module passes on of another.
+    exports = {m: set(names) for m, names in own.items()}
+    for p, t in texts.items():
+        for m in re.finditer(r'(?m)^pub (use \S.*)$', t):
+            for module, items in imports(m.group(1)):
+                exports[module_of(p)] |= {name for name, _ in items if name in own.get(module, ())}
     trouble = []
     told = collections.Counter()
 
@@ -183,7 +189,7 @@ def main():
         foreign = set()
         for module, items in imports(t):
             for name, alias in items:
-                if name in own.get(module, ()):
+                if name in exports.get(module, ()):
                     if turns(name):
                         names.add(name)
                     if alias and turns(alias):
@@ -206,7 +212,7 @@ def main():
         names = set()
         for module, items in imports(t):
             for name, alias in items:
-                if name in own.get(module, ()) and turns(name):
+                if name in exports.get(module, ()) and turns(name):
                     names.add(name)
         # Rust's own words have neither dashes nor capitals within, so a name of `names` stands in clauses alone.
         new = turn_names(t, names, p, '//')

@@ -15,23 +15,23 @@ use Rattle.base_format.specs.Checked.{ok}
 use Rattle.base_format.specs.Limits.{Inside, Takes, FrameFits}
 use Rattle.base_format.specs.Operation.{copy_wrong, copy_rules}
 use Rattle.base_format.specs.Pool.{Payload}
-use Rattle.base_format.specs.Target.{missing, bulkStart, bulkLength, kindFor, outside}
+use Rattle.base_format.specs.Target.{missing, bulk_start, bulk_length, kind_for, outside}
 use Rattle.base_format.proofs.Checks.{passed_test, passed_last, or_false, and_true, positive}
 
 pub inside_passes : (what : Target) (address size : ℕ) → Inside what address size → outside what address size ≡ false
 unfolding outside
 inside_passes what address size h =
-    rw (ne_eqb size 0 (λ e. omega (arith, h.some)), le-ltb address (bulkStart what) h.from, le-ltb (bulkStart what + bulkLength what) (address + size) h.up_to)
+    rw (ne_eqb size 0 (λ e. omega (arith, h.some)), le-ltb address (bulk_start what) h.from, le-ltb (bulk_start what + bulk_length what) (address + size) h.up_to)
 
 pub passes_inside : (what : Target) (address size : ℕ) → outside what address size ≡ false → Inside what address size
 unfolding outside
 passes_inside what address size e =
-    let a₁ = or_false (eqb size 0 || ltb address (bulkStart what)) (ltb (bulkStart what + bulkLength what) (address + size)) e in
-    let a₂ = or_false (eqb size 0) (ltb address (bulkStart what)) a₁.0 in
+    let a₁ = or_false (eqb size 0 || ltb address (bulk_start what)) (ltb (bulk_start what + bulk_length what) (address + size)) e in
+    let a₂ = or_false (eqb size 0) (ltb address (bulk_start what)) a₁.0 in
     record {
       some = positive size a₂.0;
-      from = ltb-false address (bulkStart what) a₂.1;
-      up_to = ltb-false (bulkStart what + bulkLength what) (address + size) a₁.1;
+      from = ltb-false address (bulk_start what) a₂.1;
+      up_to = ltb-false (bulk_start what + bulk_length what) (address + size) a₁.1;
     }
 
 -- an entry of the directory for a pool
@@ -42,7 +42,7 @@ pub takes_passes : (what : Target) (pool : Payload) (entry : Pool) (address sour
     → Takes what pool address source size → copy_wrong what entry address source size ≡ false
 unfolding copy_wrong
 takes_passes what pool entry address source size for h =
-    rw (for.0, for.1, le-ltb (length pool.bytes) (source + size) h.in_pool, eq-eqb pool.kind (kindFor what) h.right_kind) (go (eqb pool.kind 1) refl)
+    rw (for.0, for.1, le-ltb (length pool.bytes) (source + size) h.in_pool, eq-eqb pool.kind (kind_for what) h.right_kind) (go (eqb pool.kind 1) refl)
   where
     go : (b : Bool) → eqb pool.kind 1 ≡ b → (b && not (eqb (address % 256) 0 && eqb (source % 256) 0 && eqb (size % 256) 0)) ≡ false
     go true e = let w = h.whole_waves (eqb-true pool.kind 1 e) in rw (w.0, w.1, w.2)
@@ -54,7 +54,7 @@ pub record CopyAllowed (pools : ℕ) (what : Target) (address id : ℕ) (pool : 
   pub inside : outside what address size ≡ false
   pub known : id < pools
   pub in_pool : source + size ≤ pool.size
-  pub right_kind : pool.kind ≡ kindFor what
+  pub right_kind : pool.kind ≡ kind_for what
   pub right : copy_wrong what pool address source size ≡ false
 
 pub copy_allowed : (at version pools : ℕ) (what : Target) (address id : ℕ) (pool : Pool) (source size : ℕ)
@@ -65,8 +65,8 @@ copy_allowed at version pools what address id pool source size e =
     let b = passed_test 17 at (eqb version 4 && outside what address size) a.1 in
     let c = passed_test 18 at (leb pools id) b.1 in
     let d = or_false (outside what address size) (copy_wrong what pool address source size) (passed_last 19 at _ c.1) in
-    let f = or_false (ltb pool.size (source + size) || not (eqb pool.kind (kindFor what))) _ d.1 in
-    let g = or_false (ltb pool.size (source + size)) (not (eqb pool.kind (kindFor what))) f.0 in
+    let f = or_false (ltb pool.size (source + size) || not (eqb pool.kind (kind_for what))) _ d.1 in
+    let g = or_false (ltb pool.size (source + size)) (not (eqb pool.kind (kind_for what))) f.0 in
     record {
       exists = a.0;
       inside = d.0;
@@ -88,11 +88,11 @@ pub passes_takes : (what : Target) (pool : Payload) (entry : Pool) (address sour
 unfolding copy_wrong
 passes_takes what pool entry address source size for e =
     let waves = eqb entry.kind 1 && not (eqb (address % 256) 0 && eqb (source % 256) 0 && eqb (size % 256) 0) in
-    let a₁ = or_false (ltb entry.size (source + size) || not (eqb entry.kind (kindFor what))) waves e in
-    let a₂ = or_false (ltb entry.size (source + size)) (not (eqb entry.kind (kindFor what))) a₁.0 in
+    let a₁ = or_false (ltb entry.size (source + size) || not (eqb entry.kind (kind_for what))) waves e in
+    let a₂ = or_false (ltb entry.size (source + size)) (not (eqb entry.kind (kind_for what))) a₁.0 in
     record {
       in_pool = rw for.1 at (ltb-false entry.size (source + size) a₂.0);
-      right_kind = sym for.0 ∙ eqb-true entry.kind (kindFor what) (not-false (eqb entry.kind (kindFor what)) a₂.1);
+      right_kind = sym for.0 ∙ eqb-true entry.kind (kind_for what) (not-false (eqb entry.kind (kind_for what)) a₂.1);
       whole_waves = λ one. whole (eq-eqb entry.kind 1 (for.0 ∙ one)) a₁.1;
     }
   where

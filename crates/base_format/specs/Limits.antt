@@ -7,7 +7,7 @@ use Rattle.base_format.specs.declared.operation.Operation.TheVariants.{Write, Fi
 use Rattle.base_format.specs.Bytes.{all_zero}
 use Rattle.base_format.specs.Pool.{Payload, no_pool, kind_wrong}
 use Rattle.base_format.specs.Stream.{Stream}
-use Rattle.base_format.specs.Target.{target_of, missing, writeLimit, bulkStart, bulkLength, kindFor}
+use Rattle.base_format.specs.Target.{target_of, missing, write_limit, bulk_start, bulk_length, kind_for}
 use Rattle.base_format.specs.Written.{written}
 use Rattle.base_format.specs.Size.{file_limit}
 
@@ -22,19 +22,19 @@ Bytes bytes = Each (λ (b : ℕ). b < 256) bytes
 -- a WRITE: its target exists, and the address is within the target's limit
 pub record WriteFits (what : Target) (address value : ℕ) : Type 0 where
   pub exists : missing what ≡ false
-  pub within : address ≤ writeLimit what
+  pub within : address ≤ write_limit what
   pub value_byte : value < 256
 
 -- the destination of a FILL or a COPY: 1 or more addresses, all of them in the target's range
 pub record Inside (what : Target) (address size : ℕ) : Type 0 where
   pub some : 1 ≤ size
-  pub from : bulkStart what ≤ address
-  pub up_to : address + size ≤ bulkStart what + bulkLength what
+  pub from : bulk_start what ≤ address
+  pub up_to : address + size ≤ bulk_start what + bulk_length what
 
 -- what a COPY takes from its pool: bytes that are there, of the kind that the target takes, and of waves only whole ones
 pub record Takes (what : Target) (pool : Payload) (address source size : ℕ) : Type 0 where
   pub in_pool : source + size ≤ length pool.bytes
-  pub right_kind : pool.kind ≡ kindFor what
+  pub right_kind : pool.kind ≡ kind_for what
   pub whole_waves : pool.kind ≡ 1 → (address % 256 ≡ 0) × (source % 256 ≡ 0) × (size % 256 ≡ 0)
 
 -- a FILL: its target exists, and its destination is allowed; version 1 has none

@@ -12,7 +12,7 @@ use Rattle.base_format.specs.Bytes.{byte, be}
 use Rattle.base_format.specs.Card.{cards_of}
 use Rattle.base_format.specs.Checked.{Checked, ok, refuse, ◌>>=◌, ◌>>◌}
 use Rattle.base_format.specs.Pool.{pool_at}
-use Rattle.base_format.specs.Target.{target_of, missing, writeLimit, outside, kindFor}
+use Rattle.base_format.specs.Target.{target_of, missing, write_limit, outside, kind_for}
 
 -- what the rules for an operation go by: the version, the cards, how many pools there are, and what each is
 pub record Setting : Type 0 where
@@ -65,14 +65,14 @@ fields_at file width at (suc (suc n)) =
 unfoldable pub copy_wrong : Target → Pool → (address source size : ℕ) → Bool
 copy_wrong target pool address source size =
     ltb pool.size (source + size)
-    || not (eqb pool.kind (kindFor target))
+    || not (eqb pool.kind (kind_for target))
     || eqb pool.kind 1 && not (eqb (address % 256) 0 && eqb (source % 256) 0 && eqb (size % 256) 0)
 
 -- rules 15 to 19 for a WRITE, a FILL and a COPY at a place; 17 is for "a FILL, or in version 4 a COPY"
 unfoldable pub write_rules : (at : ℕ) → Target → (address : ℕ) → Checked (Unit {0})
 write_rules at target address = do
   refuse 15 at (missing target)
-  refuse 16 at (ltb (writeLimit target) address)
+  refuse 16 at (ltb (write_limit target) address)
 
 unfoldable pub fill_rules : (at : ℕ) → Target → (address size : ℕ) → Checked (Unit {0})
 fill_rules at target address size = do

@@ -2,7 +2,7 @@
 
 // A card of version 4: the slot that it is for, its name, and the range that FILL and COPY may write.
 #[repr(C)]
-#[derive(Drop)]
+#[derive(Clone, Copy)]
 pub struct CardRequirement {
     pub slot: u8,
     pub id_length: u8,
@@ -14,7 +14,7 @@ pub struct CardRequirement {
 
 // Eight cards by value with a count; cards beyond the count are all 0.
 #[repr(C)]
-#[derive(Drop)]
+#[derive(Clone, Copy)]
 pub struct CardTable {
     pub cards: [CardRequirement; 8],
     pub count: usize,

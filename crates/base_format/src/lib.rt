@@ -1,4 +1,6 @@
 // The values of the format sheet that the crates share. What they mean is in specs/.
+#![tactic(auto)]
+
 mod card;
 mod header;
 mod operation;

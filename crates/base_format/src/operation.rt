@@ -1,7 +1,7 @@
 // An operation of a file, and one write that it makes.
 
 // An operation; a record of version 1 is a WRITE.
-#[derive(Drop)]
+#[derive(Clone, Copy)]
 pub enum Operation {
     Write {
         target: u8,
@@ -25,7 +25,7 @@ pub enum Operation {
 
 // One write that playing makes.
 #[repr(C)]
-#[derive(Drop)]
+#[derive(Clone, Copy)]
 pub struct WriteRecord {
     pub target: u8,
     pub address: u32,

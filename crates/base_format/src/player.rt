@@ -3,7 +3,7 @@ use crate::{CardTable, Header};
 
 // What a player is playing: nothing yet of the next vsync, the opening, a frame, or the closing writes. A state holds its
 // number, because an exported type holds no enum; every number past 2 stands for the closing writes.
-#[derive(Drop)]
+#[derive(Clone, Copy)]
 pub enum Part {
     Between,
     Opening,
@@ -23,7 +23,7 @@ impl Part {
 
 // The pool that was last copied to a place of 256 bytes of a core, if any was.
 #[repr(C)]
-#[derive(Drop)]
+#[derive(Clone, Copy)]
 pub struct WaveSource {
     pub copied: bool,
     pub pool: u16,
@@ -33,7 +33,7 @@ pub struct WaveSource {
 // the writes that are done of the operation at `cursor`, or of the closing writes; `frame_index` the frames of this pass that are
 // begun.
 #[repr(C)]
-#[derive(Drop)]
+#[derive(Clone, Copy)]
 pub struct Progress {
     pub part: u8,
     pub cursor: usize,
@@ -47,7 +47,7 @@ pub struct Progress {
 }
 
 // Where a player is in its file, as the numbers of a progress that most calls move on.
-#[derive(Drop)]
+#[derive(Clone, Copy)]
 pub struct Position {
     pub part: u8,
     pub cursor: usize,
@@ -59,7 +59,7 @@ pub struct Position {
 
 // What a vsync plays next: the number of its part, and for a frame the place of its count and how many frames of the pass are begun
 // before it.
-#[derive(Drop)]
+#[derive(Clone, Copy)]
 pub struct NextPart {
     pub part: u8,
     pub place: usize,
@@ -68,7 +68,7 @@ pub struct NextPart {
 
 // A player's state: what its start recorded, which no call changes, and its progress.
 #[repr(C)]
-#[derive(Drop)]
+#[derive(Clone, Copy)]
 pub struct StreamPlayer {
     pub header: Header,
     pub cards: CardTable,

@@ -1,7 +1,7 @@
 // A pool of a file.
 
 // A pool as its directory entry gives it.
-#[derive(Drop)]
+#[derive(Clone, Copy)]
 pub struct Pool {
     pub kind: u8,
     pub size: u32,

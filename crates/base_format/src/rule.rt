@@ -1,7 +1,7 @@
 // The refusals of the sheet's list, and the answer of a check that gives no value.
 
 // The sheet's refusals, in its order: `number_of` of specs/Rule.antt gives each its number.
-#[derive(Drop)]
+#[derive(Clone, Copy)]
 pub enum Rule {
     HeaderShort,
     Letters,
@@ -36,14 +36,14 @@ pub enum Rule {
 }
 
 // A refusal: its rule, and the place in the file.
-#[derive(Drop)]
+#[derive(Clone, Copy)]
 pub struct Refusal {
     pub rule: Rule,
     pub place: usize,
 }
 
 // The answer of a check that gives no value.
-#[derive(Drop)]
+#[derive(Clone, Copy)]
 pub enum Verdict {
     Allowed,
     Refused(Refusal),

@@ -1,4 +1,6 @@
 // What a vsync plays next, and how far each part goes: the one decision of the plan, the segments and the quick paths.
+#![tactic(auto)]
+
 ghost use Rattle.std.specs.Prelude.{◌≡◌, ◌+◌, ◌-◌, ◌^◌, ◌<◌};
 ghost use Rattle.base_format.specs.Next.{next_part, frame_next};
 ghost use Rattle.base_format.specs.Writes.{closing_count};

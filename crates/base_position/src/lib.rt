@@ -1,4 +1,6 @@
 // Where a player is in its file: by value, and stored in a lent state. A progress is made from a position (crate base_state).
+#![tactic(auto)]
+
 mod store;
 
 ghost use Rattle.std.specs.Prelude.{◌≡◌};

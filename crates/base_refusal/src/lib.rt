@@ -1,4 +1,6 @@
 // A refusal's number, and checks one after the other.
+#![tactic(auto)]
+
 mod checks;
 mod numbers;
 

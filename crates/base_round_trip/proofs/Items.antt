@@ -16,7 +16,7 @@ use Rattle.base_format.specs.Limits.{Each, OperationFits, CardsFit, PoolFits, Fr
 use Rattle.base_format.specs.Pool.{no_pool, Payload}
 use Rattle.base_format.specs.Operation.{extras, Setting, address_width, size_of, opcode_of, fields_at, write_rules, fill_rules, copy_rules, allowed, operation_at, record_at, item_at}
 use Rattle.base_format.specs.Stream.{operations_from, frames_from}
-use Rattle.base_format.specs.Target.{target_of, writeLimit}
+use Rattle.base_format.specs.Target.{target_of, write_limit}
 use Rattle.base_format.specs.Written.{operation_fields, without_first, item_bytes, operations_bytes, frames_bytes}
 use Rattle.base_format.proofs.Bytes.{behind}
 use Rattle.base_format.proofs.Fields.{fields_size, fields_size_lem}
@@ -44,7 +44,7 @@ pub allows : (setting : Setting) (pools : List Payload) → For pools setting �
     → OperationFits setting.version setting.cards pools operation → allowed setting at operation ≡ ok tt
 unfolding allowed write_rules fill_rules copy_rules
 allows setting pools for at (Write target address value) fits =
-    rw (fits.exists, le-ltb (writeLimit (target_of setting.version setting.cards target)) address fits.within)
+    rw (fits.exists, le-ltb (write_limit (target_of setting.version setting.cards target)) address fits.within)
 allows setting pools for at (Fill target address size value) fits =
     rw (fits.exists, inside_passes (target_of setting.version setting.cards target) address size fits.inside)
 allows setting pools for at (Copy target address id source size) fits =

@@ -17,7 +17,7 @@ use Rattle.base_format.specs.Limits.{Each, OperationFits, FrameFits}
 use Rattle.base_format.specs.Pool.{no_pool, Payload}
 use Rattle.base_format.specs.Operation.{Setting, Item, address_width, size_of, fields_at, write_rules, fill_rules, allowed, operation_at, record_at, item_at}
 use Rattle.base_format.specs.Stream.{operations_from, frames_from}
-use Rattle.base_format.specs.Target.{target_of, missing, writeLimit, outside}
+use Rattle.base_format.specs.Target.{target_of, missing, write_limit, outside}
 use Rattle.base_format.specs.Written.{operation_fields, without_first, item_bytes, operations_bytes, frames_bytes}
 use Rattle.base_format.proofs.Bytes.{be_below}
 use Rattle.base_format.proofs.Checks.{passed_test, passed_last, given}
@@ -37,7 +37,7 @@ module _ (setting : Setting) (pools : List Payload) (for : For pools setting) (f
   write_within at target address value byte' e =
       let what = target_of setting.version setting.cards target in
       let first = passed_test 15 at (missing what) e in
-      record { exists = first.0; within = ltb-false (writeLimit what) address (passed_last 16 at (ltb (writeLimit what) address) first.1); value_byte = byte' }
+      record { exists = first.0; within = ltb-false (write_limit what) address (passed_last 16 at (ltb (write_limit what) address) first.1); value_byte = byte' }
 
   fill_within : (at target address size value : ℕ) → 2 ≤ setting.version → value < 256 → allowed setting at (Fill target address size value) ≡ ok tt
       → OperationFits setting.version setting.cards pools (Fill target address size value)

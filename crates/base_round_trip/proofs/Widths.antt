@@ -12,12 +12,12 @@ use Rattle.base_targets.specs.declared.Target.TheVariants.{Core, Pcm, Bank, Slot
 use Rattle.base_format.specs.Limits.{CardsFit}
 use Rattle.base_format.specs.Operation.{address_width}
 use Rattle.base_format.specs.Pool.{kind_wrong}
-use Rattle.base_format.specs.Target.{slot_of, slot_target, target_of, writeLimit, bulkStart, bulkLength}
+use Rattle.base_format.specs.Target.{slot_of, slot_target, target_of, write_limit, bulk_start, bulk_length}
 use Rattle.base_format.proofs.Steps.{KindIs, is_wave, is_pcm, is_bank, kind_is, bank_limit_lem}
 
 -- no address that a target takes reaches a number
 abbrev Below : (end : ℕ) → Target → Type 0
-Below end what = (writeLimit what < end) × (bulkStart what + bulkLength what ≤ end)
+Below end what = (write_limit what < end) × (bulk_start what + bulk_length what ≤ end)
 
 slot_below : (least : ℕ) (cards : List CardRequirement) → CardsFit least cards → (slot : ℕ) → Below 0x2000000 (slot_target cards slot)
 unfolding slot_target

@@ -1,4 +1,6 @@
 // A player's state and its progress: made and moved on. No other crate makes a progress.
+#![tactic(auto)]
+
 mod progress;
 
 ghost use Rattle.std.specs.Prelude.{[], ◌≡◌};

@@ -1,11 +1,13 @@
 // "Each target owns its named limits": what a target number stands for in a file, its write limit, its bulk limit, and the
 // slot of a card target.
+#![tactic(auto)]
+
 ghost use Rattle.std.specs.Prelude.{◌≡◌};
 ghost use Rattle.base_targets.specs.Target.{slot_of, missing, write_limit, bulk_start, bulk_length, outside, kind_for};
 
 // What a target number stands for in a file: a core, PCM memory, version 3's target 3, a slot of version 4 with its card's
 // bulk range, target 11, or nothing.
-#[derive(Drop)]
+#[derive(Clone, Copy)]
 pub enum Target {
     Core,
     Pcm,

@@ -1,4 +1,6 @@
 // Bytes copied from a file into a buffer, a run at a time.
+#![tactic(auto)]
+
 ghost use Rattle.std.specs.Prelude.{◌≡◌, ◌+◌, ◌≤◌, length};
 ghost use Rattle.base_format.specs.Bytes.{part};
 ghost use Rattle.bytes_read.specs.Put.{put};

@@ -1,4 +1,6 @@
 // Numbers in two to four bytes of a file that are all there, highest byte first.
+#![tactic(auto)]
+
 ghost use Rattle.std.specs.Prelude.{◌≡◌, ◌+◌, ◌^◌, ◌≤◌, ◌<◌, length};
 ghost use Rattle.base_format.specs.Bytes.{be};
 

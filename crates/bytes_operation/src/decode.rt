@@ -12,7 +12,7 @@ use bytes_read::byte_at;
 
 // The numbers of an item: `length` is 1 where it has none, `value` is 0 in a COPY, `pool` and `source` are 0 in any other. `size` is how
 // many bytes it has; 0 where the opcode is none.
-#[derive(Drop)]
+#[derive(Clone, Copy)]
 pub struct Decoded {
     pub opcode: u8,
     pub target: u8,

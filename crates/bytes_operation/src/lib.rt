@@ -1,6 +1,8 @@
 // The one reader of records and operations: their numbers, in bytes that begin with one, by value and without the rules. Every path
 // that takes an item apart calls it: whole, or in a hot loop number by number, because the compiler does not inline the whole. What the
 // crate bytes_operation_size says of addresses and sizes is passed on.
+#![tactic(auto)]
+
 mod decode;
 mod number;
 

@@ -1,5 +1,7 @@
 // The reader's numbers where a test or an earlier pass has told the opcode: of a WRITE or a FILL, and of a COPY. No load waits for the
 // opcode, and the compiler joins the bytes of a number to one load. Each is the number of crate bytes_operation (proofs/Laws).
+#![tactic(auto)]
+
 ghost use Rattle.std.specs.Prelude.{◌≡◌, ◌≤◌};
 ghost use Rattle.base_format.specs.Size.{operation_most};
 ghost use Rattle.bytes_operation_known.specs.Known.{extra_of, fill_length, fill_size, fill_value, write_value, copy_pool, copy_source, copy_length};

@@ -1,4 +1,6 @@
 // The width of addresses, by the version, and the sizes of operations, by the width.
+#![tactic(auto)]
+
 ghost use Rattle.std.specs.Prelude.{cond, ◌≡◌, ◌+◌, ◌≤◌, min, eqb, get_or};
 ghost use Rattle.base_format.specs.Bytes.{be};
 ghost use Rattle.base_format.specs.Operation.{address_width, extras, size_of};

@@ -1,5 +1,7 @@
 // Numbers written into a buffer, highest byte first. A number that does not fit is not written, so that no function asks anything of
 // its place.
+#![tactic(auto)]
+
 ghost use Rattle.std.specs.Prelude.{◌≡◌};
 ghost use Rattle.base_format.specs.Bytes.{bytes_of};
 ghost use Rattle.bytes_store.specs.Put.{put};

@@ -1,4 +1,6 @@
 // The header of a pooled file (versions 2 to 4): 40 bytes that are laid out alike, and in version 4 the period and 4 bytes more.
+#![tactic(auto)]
+
 ghost use Rattle.std.specs.Prelude.{◌≡◌, ◌≤◌, ◌<◌, length};
 ghost use Rattle.base_format.specs.Bytes.{bytes_of_all};
 ghost use Rattle.base_format.specs.Header.{header_size};

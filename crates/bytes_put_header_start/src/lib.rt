@@ -1,4 +1,6 @@
 // The first 28 bytes of a pooled file's header: the letters, the version, the repeat flag, then counts and offsets.
+#![tactic(auto)]
+
 ghost use Rattle.std.specs.Prelude.{◌≡◌, cond, ◌≤◌, ◌<◌, length};
 ghost use Rattle.base_format.specs.Bytes.{bytes_of_all};
 ghost use Rattle.bytes_read.specs.Put.{put};

@@ -1,4 +1,6 @@
 // The items of a pooled file (versions 2 to 4): any operation, written as its version says, and a frame's count.
+#![tactic(auto)]
+
 ghost use Rattle.std.specs.Prelude.{◌≡◌, ◌+◌, ◌≤◌, length};
 ghost use Rattle.base_format.specs.Written.{item_bytes};
 ghost use Rattle.bytes_read.specs.Put.{put};

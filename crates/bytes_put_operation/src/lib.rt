@@ -1,4 +1,6 @@
 // The operations of a pooled file (versions 2 to 4), each written at a place where it fits. The width of addresses is a parameter.
+#![tactic(auto)]
+
 ghost use Rattle.std.specs.Prelude.{◌≡◌, ◌+◌, ◌≤◌, length};
 ghost use Rattle.base_format.specs.declared.operation.Operation.TheVariants.{Write, Fill, Copy};
 ghost use Rattle.base_format.specs.Operation.{size_of};

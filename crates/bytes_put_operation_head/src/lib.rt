@@ -1,4 +1,6 @@
 // What every operation of a pooled file begins with: its opcode, target and address. The width of addresses, 3 or 4 bytes, is a parameter.
+#![tactic(auto)]
+
 ghost use Rattle.std.specs.Prelude.{◌≡◌, ◌≤◌, length};
 ghost use Rattle.base_format.specs.Bytes.{bytes_of};
 ghost use Rattle.bytes_read.specs.Put.{put};

@@ -1,4 +1,6 @@
 // The tables behind the header of a pooled file: the cards of version 4, and an entry of the pool directory.
+#![tactic(auto)]
+
 ghost use Rattle.std.specs.Prelude.{◌≡◌, ◌+◌, ◌*◌, ◌≤◌, length};
 ghost use Rattle.base_format.specs.Bytes.{bytes_of_all};
 ghost use Rattle.base_format.specs.Card.{cards_of};

@@ -1,5 +1,7 @@
 // Numbers of a file, highest byte first, at a width of one to four bytes. Past the file's end every byte reads as 0, so that no function
 // asks anything of its place. The functions that write numbers are the crate bytes_put's, passed on here.
+#![tactic(auto)]
+
 ghost use Rattle.std.specs.Prelude.{◌≡◌, ◌+◌, ◌*◌, ◌^◌, ◌≤◌, ◌<◌, min, ltb, length};
 ghost use Rattle.base_format.specs.Bytes.{byte, be, part};
 

@@ -1,4 +1,6 @@
 // Whether two slices have the same bytes.
+#![tactic(auto)]
+
 ghost use Rattle.std.specs.Prelude.{◌≡◌};
 ghost use Rattle.base_format.specs.Bytes.{same_bytes};
 

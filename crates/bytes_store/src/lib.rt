@@ -1,4 +1,6 @@
 // The lowest one to four bytes of a number, stored highest first where there is room for them.
+#![tactic(auto)]
+
 ghost use Rattle.std.specs.Prelude.{◌≡◌, ◌+◌, ◌≤◌, length};
 ghost use Rattle.base_format.specs.Bytes.{bytes_of};
 ghost use Rattle.bytes_store.specs.Put.{put};

@@ -13,7 +13,7 @@ use check_frames::check_frames;
 use check_items::Walked;
 
 // Whether an operation of the file has target 11; or a refusal.
-#[derive(Drop)]
+#[derive(Clone, Copy)]
 pub enum BodyRead {
     Whole { si22: bool },
     Refused(Refusal),

@@ -1,4 +1,6 @@
 // The opening and the frames of a file: the rules 13 to 20.
+#![tactic(auto)]
+
 mod body;
 mod opening;
 

@@ -1,4 +1,6 @@
 // One card of version 4: its bytes, and the card rules (7).
+#![tactic(auto)]
+
 mod entry;
 mod rules;
 

@@ -1,4 +1,6 @@
 // Reads the cards of version 4, with the sheet's rule 7.
+#![tactic(auto)]
+
 ghost use Rattle.std.specs.Prelude.{◌≡◌};
 ghost use Rattle.base_format.specs.Card.{cards_from};
 ghost use Rattle.base_format.specs.Checked.{refused};
@@ -10,7 +12,7 @@ pub use check_card::one_card_wrong;
 use check_card::{card_wrong, read_card};
 
 // What reading the cards gives: a verdict, and the table, which has no card where the verdict is a refusal.
-#[derive(Drop)]
+#[derive(Clone, Copy)]
 pub struct CardsRead {
     pub verdict: Verdict,
     pub cards: CardTable,

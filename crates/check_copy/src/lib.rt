@@ -1,4 +1,6 @@
 // The rules 15 to 19 for a COPY whose numbers are read and whose target is found.
+#![tactic(auto)]
+
 ghost use Rattle.std.specs.Prelude.{◌≡◌};
 ghost use Rattle.base_format.specs.Pool.{pool_at};
 ghost use Rattle.base_format.specs.Rule.{verdict_of};

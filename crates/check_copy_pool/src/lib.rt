@@ -1,4 +1,6 @@
 // What rule 19 refuses of a COPY from its pool.
+#![tactic(auto)]
+
 ghost use Rattle.std.specs.Prelude.{◌≡◌};
 ghost use Rattle.base_format.specs.Operation.{copy_wrong};
 

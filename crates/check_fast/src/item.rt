@@ -12,7 +12,7 @@ use check_fast_limits::{LimitTable, TARGETS, TargetLimits, limits_at};
 use check_fast_rules::{out_of_range, pool_fits};
 
 // Whether an operation is passed, and its size. Both are there, so that the place behind it waits for no comparison.
-#[derive(Drop)]
+#[derive(Clone, Copy)]
 pub struct Quick {
     pub passed: bool,
     pub size: usize,

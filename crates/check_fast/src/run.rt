@@ -10,7 +10,7 @@ use bytes_read::{smaller, window};
 use check_fast_limits::LimitTable;
 
 // Where a run of items stops, how many items are left there, and whether one before has target 11.
-#[derive(Drop)]
+#[derive(Clone, Copy)]
 pub struct QuickRun {
     pub at: usize,
     pub left: u32,

@@ -13,11 +13,11 @@ use lib.Seq.{get_or_at, take_all, take-suc-set}
 use Rattle.base_targets.specs.declared.Target.{Target}
 use Rattle.base_targets.specs.declared.Target.TheVariants.{Core, Pcm, Bank, Slot, Si22, Missing}
 use Rattle.base_format.specs.declared.card.CardRequirement.{CardRequirement}
-use Rattle.base_format.specs.Target.{target_of, writeLimit, bulkStart, kindFor}
+use Rattle.base_format.specs.Target.{target_of, write_limit, bulk_start, kind_for}
 use Rattle.check_fast_limits.specs.Limits.{write_end, bulk_end, tabled, limits_for, limit_table, limits_at}
 
 -- no limit passes a card's
-pub write_limit_range : (target : Target) → writeLimit target ≤ 0x1FFFFFF
+pub write_limit_range : (target : Target) → write_limit target ≤ 0x1FFFFFF
 write_limit_range Core = lit≤ tt
 write_limit_range Pcm = lit≤ tt
 write_limit_range Bank = lit≤ tt
@@ -53,7 +53,7 @@ pub limits_at_lem : (version : ℕ) (cards : List CardRequirement) (number : ℕ
 unfolding limit_table
 limits_at_lem version cards number h =
     let column : (f : Target → ℕ) → get_or (tabled (λ n. f (target_of version cards n)) 12) number 0 ≡ f (target_of version cards number) = λ f. tabled_at (λ n. f (target_of version cards n)) 12 number h in
-    rw (column write_end, column bulkStart, column bulk_end, column kindFor)
+    rw (column write_end, column bulk_start, column bulk_end, column kind_for)
 
 -- a column that is filled up to a number: empty, with one value more, and full
 pub record Filled (f : ℕ → ℕ) (n : ℕ) (array : List ℕ) : Type 0 where

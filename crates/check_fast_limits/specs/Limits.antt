@@ -2,16 +2,16 @@
 use Rattle.std.specs.Prelude.{ℕ, zero, suc, ◌+◌, cond, List, [], ◌∷◌, ◌++◌, get_or}
 use Rattle.base_format.specs.declared.card.CardRequirement.{CardRequirement}
 use Rattle.base_targets.specs.declared.Target.{Target}
-use Rattle.base_format.specs.Target.{target_of, missing, writeLimit, bulkStart, bulkLength, kindFor}
+use Rattle.base_format.specs.Target.{target_of, missing, write_limit, bulk_start, bulk_length, kind_for}
 use Rattle.check_fast_limits.specs.declared.TargetLimits.{TargetLimits}
 
 -- the address behind the last one of a WRITE; a missing target has none
 unfoldable pub write_end : Target → ℕ
-write_end target = cond (missing target) 0 (writeLimit target + 1)
+write_end target = cond (missing target) 0 (write_limit target + 1)
 
 -- one more than the end of the range of FILL and COPY
 unfoldable pub bulk_end : Target → ℕ
-bulk_end target = cond (missing target) 0 (bulkStart target + bulkLength target + 1)
+bulk_end target = cond (missing target) 0 (bulk_start target + bulk_length target + 1)
 
 -- the values of a function at the numbers below `count`
 unfoldable pub tabled : (ℕ → ℕ) → (count : ℕ) → List ℕ
@@ -23,9 +23,9 @@ abbrev pub limits_for : Target → TargetLimits
 limits_for target =
     record {
       write_end = write_end target;
-      bulk_start = bulkStart target;
+      bulk_start = bulk_start target;
       bulk_end = bulk_end target;
-      kind = kindFor target;
+      kind = kind_for target;
     }
 
 -- a column of the table: one number of every target
@@ -35,7 +35,7 @@ column_of version cards f = tabled (λ number. f (target_of version cards number
 -- the table of a version with its cards
 unfoldable pub limit_table : (version : ℕ) → List CardRequirement → List (List ℕ)
 limit_table version cards =
-    column_of version cards write_end ∷ column_of version cards bulkStart ∷ column_of version cards bulk_end ∷ column_of version cards kindFor ∷ []
+    column_of version cards write_end ∷ column_of version cards bulk_start ∷ column_of version cards bulk_end ∷ column_of version cards kind_for ∷ []
 
 -- the limits of a target number
 abbrev pub limits_at : List (List ℕ) → (number : ℕ) → TargetLimits

@@ -1,4 +1,6 @@
 // The limits of every target number of a file, in one array: what an item is compared with.
+#![tactic(auto)]
+
 ghost use Rattle.std.specs.Prelude.{◌≡◌, ◌<◌};
 ghost use Rattle.base_format.specs.Card.{cards_of};
 ghost use Rattle.check_fast_limits.specs.Limits.{write_end, bulk_end, limit_table, limits_at};
@@ -11,7 +13,7 @@ pub const TARGETS: usize = 12;
 
 // The limits of a target number: the end of WRITE, the start and the end of FILL and COPY, and the kind of pool that a COPY takes. The
 // ends are those of the crate's specs; a missing target has 0.
-#[derive(Drop)]
+#[derive(Clone, Copy)]
 pub struct TargetLimits {
     pub write_end: u64,
     pub bulk_start: u64,

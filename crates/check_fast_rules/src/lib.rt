@@ -1,4 +1,6 @@
 // The quick tests of a range, and of the pool of a COPY. They only say yes.
+#![tactic(auto)]
+
 ghost use Rattle.std.specs.Prelude.{◌≡◌};
 ghost use Rattle.check_fast_rules.specs.Quick.{out_of_bulk, whole_wave, pool_fits};
 

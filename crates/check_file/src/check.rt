@@ -14,14 +14,14 @@ use check_header::{HeaderRead, read_header};
 use check_tables::check_layout;
 
 // An accepted file's header, with whether an operation has target 11; or the refusal.
-#[derive(Drop)]
+#[derive(Clone, Copy)]
 pub enum FileAnswer {
     Accepted { header: Header, uses_si22: bool },
     Refused(Refusal),
 }
 
 // The answer, and the table of cards, which has none where the file is refused.
-#[derive(Drop)]
+#[derive(Clone, Copy)]
 pub struct FileCheck {
     pub answer: FileAnswer,
     pub cards: CardTable,

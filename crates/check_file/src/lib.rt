@@ -1,4 +1,6 @@
 // Checks a whole file by the sheet's rules 1 to 20.
+#![tactic(auto)]
+
 mod check;
 
 pub use check::{FileAnswer, FileCheck, check_file};

@@ -18,7 +18,7 @@ pub fn count_cut_off(file: &[u8], at: usize) -> bool
 }
 
 // Where a frame starts, and how many frames are left there.
-#[derive(Drop)]
+#[derive(Clone, Copy)]
 pub struct FramesLeft {
     pub at: usize,
     pub left: u32,

@@ -1,4 +1,6 @@
 // Reads the header, with the sheet's rules 1 to 6.
+#![tactic(auto)]
+
 ghost use Rattle.std.specs.Prelude.{◌≡◌};
 ghost use Rattle.base_format.specs.Header.{header_from};
 ghost use Rattle.check_header.specs.Answer.{header_read_of};
@@ -8,7 +10,7 @@ use bytes_read::{byte_at, read_u32};
 use check_header_fields::header_of;
 use check_header_rules::{flags_wrong, header_size, period_wrong};
 
-#[derive(Drop)]
+#[derive(Clone, Copy)]
 pub enum HeaderRead {
     Found(Header),
     Refused(Rule),

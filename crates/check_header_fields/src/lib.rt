@@ -1,4 +1,6 @@
 // The fields of a header, by the version.
+#![tactic(auto)]
+
 ghost use Rattle.std.specs.Prelude.{◌≡◌};
 ghost use Rattle.base_format.specs.Header.{period_of, card_count, plain_header, pooled_header, header_of};
 

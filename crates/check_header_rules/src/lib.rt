@@ -1,4 +1,6 @@
 // What the rules 1, 5 and 6 ask of a header: its size, its flags with the reserved bytes, and its period.
+#![tactic(auto)]
+
 ghost use Rattle.std.specs.Prelude.{◌≡◌};
 ghost use Rattle.base_format.specs.Header.{header_size, reserved_wrong, flags_wrong, period_wrong};
 

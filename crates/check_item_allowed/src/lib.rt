@@ -1,4 +1,6 @@
 // The rules 15 to 19 for an operation whose target is found: the operation with the place behind it, or a refusal.
+#![tactic(auto)]
+
 ghost use Rattle.std.specs.Prelude.{◌≡◌};
 ghost use Rattle.base_format.specs.Pool.{pool_at};
 ghost use Rattle.base_format.specs.Rule.{verdict_of};
@@ -11,7 +13,7 @@ use check_copy::check_copy;
 use check_item_rules::{check_fill, check_write};
 
 // An operation and the place behind it, or a refusal.
-#[derive(Drop)]
+#[derive(Clone, Copy)]
 pub enum OperationRead {
     Found { operation: Operation, next: usize },
     Refused(Refusal),

@@ -1,4 +1,6 @@
 // The rules 15 to 17 for a WRITE and a FILL whose numbers are read and whose target is found.
+#![tactic(auto)]
+
 ghost use Rattle.std.specs.Prelude.{◌≡◌};
 ghost use Rattle.base_format.specs.Rule.{verdict_of};
 ghost use Rattle.base_format.specs.Operation.{write_rules, fill_rules};

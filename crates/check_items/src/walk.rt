@@ -10,7 +10,7 @@ use base_format::{CardTable, Header, Operation, Refusal};
 use check_item_allowed::{OperationRead, target_number};
 
 // The place behind the last item and whether one has target 11, or a refusal.
-#[derive(Drop)]
+#[derive(Clone, Copy)]
 pub enum Walked {
     End { place: usize, si22: bool },
     Refused(Refusal),

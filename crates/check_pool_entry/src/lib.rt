@@ -1,4 +1,6 @@
 // The entry of a pool in the directory, and a part of a file.
+#![tactic(auto)]
+
 ghost use Rattle.std.specs.Prelude.{◌≡◌};
 ghost use Rattle.base_format.specs.Bytes as bytes;
 ghost use Rattle.base_format.specs.Pool.{pool_at};

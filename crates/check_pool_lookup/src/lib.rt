@@ -1,4 +1,6 @@
 // Looks up a pool of an accepted file.
+#![tactic(auto)]
+
 ghost use Rattle.std.specs.Prelude.{◌≡◌};
 ghost use Rattle.base_format.specs.Lookup.{pool_kind, pool_payload};
 ghost use Rattle.check_pool_lookup.specs.Found.{pool_found_of, pool_found, pool_kind_of};
@@ -8,14 +10,14 @@ use check_file::{FileAnswer, check_file};
 use check_pool_entry::{entry_of, part};
 
 // The entry of a pool, all 0 for an unknown pool; or the refusal of the file.
-#[derive(Drop)]
+#[derive(Clone, Copy)]
 pub enum PoolFound {
     Entry(Pool),
     Refused(Refusal),
 }
 
 // The kind of a pool, 0 for an unknown pool; or the refusal of the file.
-#[derive(Drop)]
+#[derive(Clone, Copy)]
 pub enum PoolKind {
     Kind(u8),
     Refused(Refusal),

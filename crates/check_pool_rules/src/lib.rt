@@ -1,4 +1,6 @@
 // The rules 10 and 11 for one pool.
+#![tactic(auto)]
+
 ghost use Rattle.std.specs.Prelude.{◌≡◌, ◌+◌, ◌^◌, ◌<◌};
 ghost use Rattle.base_format.specs.Pool.{bank_limit, kind_wrong, pool_wrong};
 ghost use Rattle.base_format.specs.Rule.{verdict_of};

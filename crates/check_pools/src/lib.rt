@@ -1,4 +1,6 @@
 // Walks over the pools, with the sheet's rules 10 and 11.
+#![tactic(auto)]
+
 ghost use Rattle.std.specs.Prelude.{◌≡◌, ◌+◌, ◌*◌};
 ghost use Rattle.check_pools.specs.Pools.{pools_read_of, pools_end};
 ghost use Rattle.base_format.specs.Size.{entry_size};
@@ -8,7 +10,7 @@ pub use check_pool_entry::read_pool;
 use check_pool_rules::check_pool;
 
 // The place behind the last payload, or a refusal.
-#[derive(Drop)]
+#[derive(Clone, Copy)]
 pub enum PoolsRead {
     End(usize),
     Refused(Refusal),

@@ -1,4 +1,6 @@
 // The tables and the places of the sections: the rules 8 to 12.
+#![tactic(auto)]
+
 mod layout;
 mod rules;
 

@@ -1,4 +1,6 @@
 // What an operation's target number stands for.
+#![tactic(auto)]
+
 ghost use Rattle.std.specs.Prelude.{◌≡◌, min};
 ghost use Rattle.base_format.specs.Card.{cards_of};
 ghost use Rattle.base_format.specs.Target.{slot_target, target_of};

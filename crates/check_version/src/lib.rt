@@ -1,4 +1,6 @@
 // A file that must have a version: the rules 1 to 21, for the comparison and for joining.
+#![tactic(auto)]
+
 ghost use Rattle.std.specs.Prelude.{◌≡◌};
 ghost use Rattle.check_version.specs.Answer.{version_check_of, version_header};
 
@@ -6,7 +8,7 @@ use base_format::{Header, Refusal, Rule};
 use check_file::{FileAnswer, check_file};
 
 // An accepted file's header, or the refusal.
-#[derive(Drop)]
+#[derive(Clone, Copy)]
 pub enum VersionCheck {
     Accepted(Header),
     Refused(Refusal),

@@ -11,7 +11,7 @@ use check_version::{VersionCheck, check_version};
 use compare_accepted::compare_accepted;
 
 // Whether the files agree, or which one is refused.
-#[derive(Drop)]
+#[derive(Clone, Copy)]
 pub enum Comparison {
     Passed,
     Failed,

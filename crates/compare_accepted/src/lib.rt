@@ -1,4 +1,6 @@
 // Two accepted files, a master and one of version 2, by their headers.
+#![tactic(auto)]
+
 ghost use Rattle.std.specs.Prelude.{◌≡◌};
 ghost use Rattle.std.specs.Bool.{beq};
 ghost use Rattle.compare_accepted.specs.Accepted.{FramesWithin, frames_agree, agree_by, Drawn};

@@ -1,4 +1,6 @@
 // Memory images: one value or some bytes of a file, stored in one.
+#![tactic(auto)]
+
 ghost use Rattle.std.specs.Prelude.{◌≡◌, ◌+◌, ◌≤◌, length, replicate};
 ghost use Rattle.base_format.specs.Compare.{played};
 ghost use Rattle.base_format.specs.Writes.{upward};

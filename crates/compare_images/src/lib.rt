@@ -1,4 +1,6 @@
 // The two memory images of a comparison: the master's, and the other file's.
+#![tactic(auto)]
+
 mod master;
 mod other;
 

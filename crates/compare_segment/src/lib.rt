@@ -1,4 +1,6 @@
 // An operation of a version 2 file as writes whose values stand in the file. Its numbers come from the one reader of operations.
+#![tactic(auto)]
+
 ghost use Rattle.std.specs.Prelude.{◌≡◌, ◌≤◌};
 ghost use Rattle.compare_segment.specs.Segments.{source_step, copy_source, segment_at};
 
@@ -8,7 +10,7 @@ use check_pools::read_pool;
 
 // `count` writes to a target, upward from an address, and the place behind the operation. The first value stands at `source`; where
 // the values are copied each next one stands behind it, and else it is the value of all.
-#[derive(Drop)]
+#[derive(Clone, Copy)]
 pub struct Segment {
     pub target: u8,
     pub address: u32,

@@ -1,4 +1,6 @@
 // Compares the writes of a master's records with those of a version 2 file's operations, in an opening or in frames.
+#![tactic(auto)]
+
 mod frames;
 mod part;
 mod run;

@@ -12,7 +12,7 @@ use bytes_read::item_bytes;
 use compare_segment::segment_at;
 
 // The parts agree, and the other file's ends at a place; or they differ.
-#[derive(Drop)]
+#[derive(Clone, Copy)]
 pub enum PartMatch {
     Same(usize),
     Differs,

@@ -11,7 +11,7 @@ use bytes_read::{byte_at, item_bytes};
 use compare_segment::{Segment, step_of};
 
 // The records behind those that agree, or that one differs.
-#[derive(Drop)]
+#[derive(Clone, Copy)]
 pub enum Run {
     Behind { at: usize, left: u32 },
     Differs,

@@ -1,4 +1,6 @@
 // Builds the index of an accepted file into a lent buffer.
+#![tactic(auto)]
+
 ghost use Rattle.std.specs.Prelude.{◌≡◌, ◌^◌, ◌<◌, length};
 ghost use Rattle.base_format.specs.Checked.{mapped};
 ghost use Rattle.base_format.specs.Index.{index_into, index_after};
@@ -10,7 +12,7 @@ use index_frames::entry_count;
 use index_put::{put_entries, put_trailer};
 
 // The length of the index, or the refusal.
-#[derive(Drop)]
+#[derive(Clone, Copy)]
 pub enum Indexed {
     Built(usize),
     Refused(Refusal),

@@ -1,5 +1,7 @@
 // A lent index, for a jump: whether it is another than the accepted file's own, and by the own one the place of a frame. The index is compared
 // where it lies, number by number on the walk that builds it.
+#![tactic(auto)]
+
 ghost use Rattle.std.specs.Prelude.{◌≡◌, ◌+◌, ◌*◌, ◌-◌, ◌^◌, ◌<◌};
 ghost use Rattle.index_check.specs.Other.{trailer_other, entries_other, other_index};
 ghost use Rattle.index_check.specs.Place.{place_by};

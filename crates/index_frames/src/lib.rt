@@ -1,5 +1,7 @@
 // Passes over frames by the sizes of their operations alone, for the index and for a jump; and how many entries an index has. No rule is asked
 // again: of an accepted file the walk leads from frame to frame. Nothing is asked of the file either: the walk stands still at its end.
+#![tactic(auto)]
+
 ghost use Rattle.std.specs.Prelude.{◌≡◌, ◌≤◌};
 ghost use Rattle.base_format.specs.Index.{entries_for};
 ghost use Rattle.index_laws.specs.Frames.{walk_limit, items_walked, frame_walked, frames_walked, EmptyPassed};
@@ -44,7 +46,7 @@ fn frame_end(file: &[u8], version: u8, at: usize) -> usize
 }
 
 // Where a frame has its count, and how many frames are left there.
-#[derive(Drop)]
+#[derive(Clone, Copy)]
 pub struct FramesLeft {
     pub at: usize,
     pub left: u32,

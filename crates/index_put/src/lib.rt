@@ -1,4 +1,6 @@
 // Writes the two parts of an index: its entries, by walking over the frames, and its trailer.
+#![tactic(auto)]
+
 ghost use Rattle.std.specs.Prelude.{◌≡◌, ◌+◌, ◌*◌, ◌^◌, ◌≤◌, ◌<◌, length};
 ghost use Rattle.base_format.specs.Bytes.{bytes_of_all};
 ghost use Rattle.bytes_read.specs.Put.{put};

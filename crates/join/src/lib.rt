@@ -1,4 +1,6 @@
 // Joining: two files of version 2 as one, in a lent buffer. The refusals in their order, then the result.
+#![tactic(auto)]
+
 ghost use Rattle.std.specs.Prelude.{◌≡◌};
 ghost use Rattle.base_format.specs.Checked.{ok};
 ghost use Rattle.base_format.specs.Rule.{number_of};
@@ -17,7 +19,7 @@ const FRAME_MOST: usize = 65535;
 const POOLS_MOST: usize = 65536;
 
 // The length of the joined file; or the refusal, of the first file, of the second, or of both together.
-#[derive(Drop)]
+#[derive(Clone, Copy)]
 pub enum Joined {
     Written(usize),
     First(Refusal),

@@ -1,4 +1,6 @@
 // The pool directory of a joined file: the entries of one file, renumbered, with their payloads moved.
+#![tactic(auto)]
+
 ghost use Rattle.std.specs.Prelude.{◌≡◌, length};
 ghost use Rattle.bytes_read.specs.Put.{put};
 ghost use Rattle.join_put_directory.specs.Entries.{EntriesFit, entries_moved};

@@ -1,5 +1,7 @@
 // Writes a joined file, part by part, into a buffer that holds it: header and directories anew, payloads and the first file's operations
 // as runs of the files as they are, then the second file's frames.
+#![tactic(auto)]
+
 ghost use Rattle.std.specs.Prelude.{◌≡◌, ◌+◌, ◌*◌, length};
 ghost use Rattle.base_format.specs.Size.{pooled_header_size, entry_size};
 ghost use Rattle.base_format.specs.Written.{written};

@@ -1,5 +1,7 @@
 // The frames of the second file in a joined one: its opening operations before those of its own first frame, and every COPY renumbered.
 // The bytes are copied in two runs, of the opening and of what stands behind the first count; then the pools are written anew.
+#![tactic(auto)]
+
 ghost use Rattle.std.specs.Prelude.{◌≡◌, ◌+◌, length};
 ghost use Rattle.bytes_read.specs.Put.{put};
 ghost use Rattle.join_put_second.specs.Second.{SecondFits, opening_run, behind_run, second_bytes};

@@ -1,5 +1,7 @@
 // Renumbers the pools of COPYs, in a buffer that has a file's operations so many bytes further on: pools of the second file follow the
 // first's. The walk goes by the file, and stands still at its end, so that nothing is asked of its numbers.
+#![tactic(auto)]
+
 ghost use Rattle.std.specs.Prelude.{◌≡◌, ◌≤◌};
 ghost use Rattle.base_format.specs.Bytes.{byte};
 ghost use Rattle.base_format.specs.Size.{file_limit};

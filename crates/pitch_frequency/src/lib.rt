@@ -1,4 +1,6 @@
 // `frequency` of the original without a base note: the pitch register of a note and a shift.
+#![tactic(auto)]
+
 ghost use Rattle.std.specs.Prelude.{◌≡◌, false, pos, ◌+ℤ◌, ◌<◌};
 ghost use Rattle.pitch_table.specs.Pitch.{sum_at};
 ghost use Rattle.pitch_frequency.specs.Frequency.{out_of_range, frequency_of, pitched_of};
@@ -7,7 +9,7 @@ use base_format::{Refusal, Rule};
 use pitch_table::pitch_at;
 
 // The pitch, or the refusal.
-#[derive(Drop)]
+#[derive(Clone, Copy)]
 pub enum Pitched {
     Pitch(u16),
     Refused(Refusal),

@@ -1,4 +1,6 @@
 // "One constant list of 224 pitches holds them": the pitch of each sum of a note and a shift, from -48 to 175.
+#![tactic(auto)]
+
 ghost use Rattle.std.specs.Prelude.{◌≡◌, ◌<◌};
 ghost use Rattle.pitch_table.specs.Pitch.{sum_at, pitch_of};
 

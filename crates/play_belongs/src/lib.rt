@@ -1,4 +1,6 @@
 // Whether a state belongs to a file: its recorded size, version and card counts, its places and its counters (25).
+#![tactic(auto)]
+
 ghost use Rattle.std.specs.Prelude.{◌≡◌, ◌||◌, eqb, ltb};
 ghost use Rattle.play_belongs.specs.Foreign.{foreign_to};
 

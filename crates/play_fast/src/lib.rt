@@ -1,5 +1,7 @@
 // A vsync call that takes nothing but WRITEs and FILLs, decided from a few numbers of the state and its cards: where it goes on, and
 // then its step. What is not taken here is for `play_plan` to decide.
+#![tactic(auto)]
+
 ghost use Rattle.std.specs.Prelude.{◌≡◌};
 ghost use Rattle.play_fast.specs.Step.{step_of};
 

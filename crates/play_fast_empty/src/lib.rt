@@ -1,5 +1,7 @@
 // The call of an empty frame between vsyncs, decided by comparing a few numbers of the state. It takes no write, so that nothing is
 // read but the frame's count.
+#![tactic(auto)]
+
 ghost use Rattle.std.specs.Prelude.{◌≡◌, ◌+◌, ◌^◌, ◌<◌};
 ghost use Rattle.play_fast_empty.specs.Empty.{no_empty, empty_next, empty_of};
 
@@ -10,7 +12,7 @@ use bytes_read::{passes, read_u16};
 use play_belongs::foreign;
 
 // Whether a vsync is under way, so that the call goes on with it; whether the call is taken, and where the player then is.
-#[derive(Drop)]
+#[derive(Clone, Copy)]
 pub struct EmptyStep {
     pub under_way: bool,
     pub taken: bool,

@@ -1,5 +1,7 @@
 // The WRITEs and FILLs that are left of a part, as far as there is room for their writes. Each is compared with a table of ranges,
 // without a branch on its opcode, because a file's opcodes need not follow any pattern.
+#![tactic(auto)]
+
 ghost use Rattle.std.specs.Prelude.{◌≡◌, ◌≤◌, length};
 ghost use Rattle.base_format.specs.Card.{cards_of};
 ghost use Rattle.bytes_operation.specs.Decoded.{decoded_operation};
@@ -14,7 +16,7 @@ use play_fast_ranges::{RANGES, address_ranges};
 
 // Where the player stops: the cursor, the operations and the room that are left, and the writes made of the operation at the cursor.
 // `taken` is false where it stops at an operation that is no WRITE or FILL, that is not allowed, or whose writes are all made.
-#[derive(Drop)]
+#[derive(Clone, Copy)]
 pub struct FillsTaken {
     pub taken: bool,
     pub cursor: usize,

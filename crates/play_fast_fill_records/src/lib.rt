@@ -1,5 +1,7 @@
 // The records of successive WRITEs and FILLs, one after the other. An operation is decoded when its first record comes, and no rule is
 // checked again: this is for operations that an earlier pass has checked.
+#![tactic(auto)]
+
 ghost use Rattle.std.specs.Prelude.{◌≡◌, ◌+◌, ◌-◌, ◌^◌, ◌<◌, ◌≤◌};
 ghost use Rattle.base_format.specs.Size.{operation_most};
 ghost use Rattle.play_fast_fill_records.specs.Records.{fill_place, following, first_record, next_fill};
@@ -11,7 +13,7 @@ use bytes_read::{passes, window};
 use std::num::wrapping_add_u32;
 
 // A record's target, address and value, and how many more the operation makes behind it.
-#[derive(Drop)]
+#[derive(Clone, Copy)]
 pub struct FillPlace {
     pub target: u8,
     pub address: u32,

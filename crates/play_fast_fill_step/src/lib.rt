@@ -1,5 +1,7 @@
 // The step of a vsync call that takes nothing but WRITEs and FILLs of the part that it goes on with, to any target. What is not taken
 // here is for `play_plan` to decide, operation by operation.
+#![tactic(auto)]
+
 ghost use Rattle.std.specs.Prelude.{◌≡◌, ◌≤◌, length};
 ghost use Rattle.base_format.specs.Card.{cards_of};
 ghost use Rattle.play_fast_fill_step.specs.FillStep.{fill_step};

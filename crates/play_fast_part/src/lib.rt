@@ -1,5 +1,7 @@
 // What a vsync call goes on with, decided once from a few numbers of the state: the part that is under way, or the one that the call
 // begins.
+#![tactic(auto)]
+
 ghost use Rattle.std.specs.Prelude.{◌≡◌, ◌+◌, ◌^◌, ◌<◌};
 ghost use Rattle.play_fast_part.specs.PlayingPart.{no_playing_part, going_on, under_way, frame_begun_at, part_between, playing_part_of};
 
@@ -11,7 +13,7 @@ use play_belongs::foreign;
 
 // `none` where the call has no such part: the player is finished, the state belongs to another file, the closing writes come, or a
 // frame's count passes the file's end. The next operation stands at the position's cursor, and no operation goes past the limit.
-#[derive(Drop)]
+#[derive(Clone, Copy)]
 pub struct PlayingPart {
     pub none: bool,
     pub limit: usize,

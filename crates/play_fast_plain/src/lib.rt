@@ -1,5 +1,7 @@
 // Plain WRITEs: records and WRITEs to a target whose limit needs no card, which are a core, PCM memory, version 3's target 3 and
 // version 4's target 11. A run of them is passed by a loop that looks at nothing of the player's state.
+#![tactic(auto)]
+
 ghost use Rattle.std.specs.Prelude.{◌≡◌, ◌≤◌, length};
 ghost use Rattle.base_format.specs.Size.{operation_most};
 ghost use Rattle.play_fast_plain.specs.Plain.{plain_end, plain_size, plain_in, plain_behind};

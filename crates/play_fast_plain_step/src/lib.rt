@@ -1,5 +1,7 @@
 // The step of a vsync call that takes nothing but plain WRITEs of the part that it goes on with. Most calls are such; what is not
 // taken here is for the steps of other operations, or for `play_plan`, to decide.
+#![tactic(auto)]
+
 ghost use Rattle.std.specs.Prelude.{◌≡◌, ◌≤◌, length};
 ghost use Rattle.play_fast_plain_step.specs.PlainStep.{plain_step};
 

@@ -13,7 +13,7 @@ use Rattle.base_targets.specs.declared.Target.TheVariants.{Missing}
 use Rattle.base_format.specs.Checked.{ok}
 use Rattle.base_format.specs.Operation.{write_rules}
 use Rattle.base_format.specs.Player.{slot_wrong}
-use Rattle.base_format.specs.Target.{slot_of, target_of, missing, writeLimit, bulkStart}
+use Rattle.base_format.specs.Target.{slot_of, target_of, missing, write_limit, bulk_start}
 use Rattle.base_format.proofs.Checks.{or_false}
 use Rattle.check_fast_limits.specs.Limits.{bulk_end}
 use Rattle.check_fast_limits.proofs.Tabled.{tabled_at}
@@ -31,7 +31,7 @@ module _ (f : ℕ → Target) (n : ℕ) (below : n < 16) where
   unfolding ends_by
   write_end_lem = tabled_at _ 32 n (omega arith) ∙ rw (lt-ltb n 16 below)
 
-  pub fill_start : get_or (starts_by f) (16 + n) 0 ≡ bulkStart (f n)
+  pub fill_start : get_or (starts_by f) (16 + n) 0 ≡ bulk_start (f n)
   unfolding starts_by
   fill_start =
       let number : 16 + n - 16 ≡ n = omega arith in
@@ -65,6 +65,6 @@ write_allows at target address e = go (missing target) refl
         let range = or_false (ltb address 0) (leb 0 (address + 1)) (rw m at e) in
         absurd (omega (arith, leb-false 0 (address + 1) range.1))
     go false m =
-        let range = or_false (ltb address 0) (leb (writeLimit target + 2) (address + 1)) (rw m at e) in
-        let most : address + 1 < writeLimit target + 2 = leb-false _ _ range.1 in
-        (m, rw (m, le-ltb (writeLimit target) address (omega arith)))
+        let range = or_false (ltb address 0) (leb (write_limit target + 2) (address + 1)) (rw m at e) in
+        let most : address + 1 < write_limit target + 2 = leb-false _ _ range.1 in
+        (m, rw (m, le-ltb (write_limit target) address (omega arith)))

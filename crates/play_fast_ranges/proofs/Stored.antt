@@ -10,7 +10,7 @@ use lib.ListN.{length, get_or, set, length-set}
 use lib.Seq.{ext_get_or, get_or-set_same, get_or-set_other}
 use Rattle.base_format.specs.declared.card.CardRequirement.{CardRequirement}
 use Rattle.base_targets.specs.declared.Target.{Target}
-use Rattle.base_format.specs.Target.{bulkStart}
+use Rattle.base_format.specs.Target.{bulk_start}
 use Rattle.check_fast_limits.specs.Limits.{bulk_end, tabled}
 use Rattle.check_fast_limits.proofs.Tabled.{length_tabled, tabled_at}
 use Rattle.play_fast_ranges.specs.Ranges.{write_top, starts_by, ends_by, starts_with, ends_with, card_target, starts_card, ends_card}
@@ -78,11 +78,11 @@ chosen false g s t = refl
 pub put_starts : (f : ℕ → Target) (number : ℕ) (target : Target) → number < 16 → starts_with (starts_by f) number target ≡ starts_by (put f number target)
 unfolding starts_by
 put_starts f number target h =
-    set_tabled _ 32 (number + 16) (bulkStart target) (omega arith) ∙ tabled_same _ _ 32 λ n below. half n (ltb n 16) refl
+    set_tabled _ 32 (number + 16) (bulk_start target) (omega arith) ∙ tabled_same _ _ 32 λ n below. half n (ltb n 16) refl
   where
-    half : (n : ℕ) → (b : Bool) → ltb n 16 ≡ b → cond (eqb n (number + 16)) (bulkStart target) (cond (ltb n 16) 0 (bulkStart (f (n - 16)))) ≡ cond (ltb n 16) 0 (bulkStart (put f number target (n - 16)))
+    half : (n : ℕ) → (b : Bool) → ltb n 16 ≡ b → cond (eqb n (number + 16)) (bulk_start target) (cond (ltb n 16) 0 (bulk_start (f (n - 16)))) ≡ cond (ltb n 16) 0 (bulk_start (put f number target (n - 16)))
     half n true e = rw (e, ne_eqb n (number + 16) λ same. omega (arith, ltb-true n 16 e))
-    half n false e = rw (e, upper n number (ltb-false n 16 e)) (chosen (eqb (n - 16) number) bulkStart target (f (n - 16)))
+    half n false e = rw (e, upper n number (ltb-false n 16 e)) (chosen (eqb (n - 16) number) bulk_start target (f (n - 16)))
 
 pub put_ends : (f : ℕ → Target) (number : ℕ) (target : Target) → number < 16 → ends_with (ends_by f) number target ≡ ends_by (put f number target)
 unfolding ends_by

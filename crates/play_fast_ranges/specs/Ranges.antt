@@ -6,12 +6,12 @@ use Rattle.base_targets.specs.declared.Target.{Target}
 use Rattle.base_targets.specs.declared.Target.TheVariants.{Slot, Missing}
 use Rattle.base_format.specs.Card.{one_card_wrong}
 use Rattle.base_format.specs.Player.{slot_wrong}
-use Rattle.base_format.specs.Target.{slot_of, target_of, missing, writeLimit, bulkStart}
+use Rattle.base_format.specs.Target.{slot_of, target_of, missing, write_limit, bulk_start}
 use Rattle.check_fast_limits.specs.Limits.{bulk_end, tabled}
 
 -- a WRITE's address and its count of 1 are at most the write limit and 1
 unfoldable pub write_top : Target → ℕ
-write_top target = cond (missing target) 0 (writeLimit target + 2)
+write_top target = cond (missing target) 0 (write_limit target + 2)
 
 -- the target of a number; missing where its card breaks rule 7
 unfoldable pub usable : (version : ℕ) → List CardRequirement → (number : ℕ) → Target
@@ -20,7 +20,7 @@ usable version cards number =
 
 -- the ranges of the targets that the numbers stand for
 unfoldable pub starts_by : (ℕ → Target) → List ℕ
-starts_by f = tabled (λ k. cond (ltb k 16) 0 (bulkStart (f (k - 16)))) 32
+starts_by f = tabled (λ k. cond (ltb k 16) 0 (bulk_start (f (k - 16)))) 32
 
 unfoldable pub ends_by : (ℕ → Target) → List ℕ
 ends_by f = tabled (λ k. cond (ltb k 16) (write_top (f k)) (bulk_end (f (k - 16)))) 32
@@ -35,7 +35,7 @@ ends_of version cards = ends_by (usable version cards)
 
 -- the arrays with the ranges of a target at its number
 abbrev pub starts_with : List ℕ → (number : ℕ) → Target → List ℕ
-starts_with starts number target = set starts (number + 16) (bulkStart target)
+starts_with starts number target = set starts (number + 16) (bulk_start target)
 
 abbrev pub ends_with : List ℕ → (number : ℕ) → Target → List ℕ
 ends_with ends number target = set (set ends number (write_top target)) (number + 16) (bulk_end target)

@@ -1,5 +1,7 @@
 // The ranges of addresses that a WRITE or a FILL may go to, in two arrays by opcode and target, so that one test without a branch on
 // the opcode allows an operation. A target whose card breaks rule 7 has the range of a missing one.
+#![tactic(auto)]
+
 ghost use Rattle.std.specs.Prelude.{◌≡◌, cond, [], ◌≤◌, ◌<◌, min, eqb, length, replicate};
 ghost use Rattle.base_format.specs.Card.{cards_of};
 ghost use Rattle.base_format.specs.Target.{target_of};

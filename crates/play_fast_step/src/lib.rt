@@ -1,4 +1,6 @@
 // A step of a vsync call, which is made once on the part that the call goes on with.
+#![tactic(auto)]
+
 ghost use Rattle.std.specs.Prelude.{◌≡◌, ◌≤◌};
 ghost use Rattle.play_fast_step.specs.Step.{no_step, step_from, step_ending, step_to};
 
@@ -8,7 +10,7 @@ use play_fast_part::PlayingPart;
 
 // What a call takes, and where the player then is. Of its `count` writes `plain` are those of plain WRITEs from `from` on, or `others`
 // are those of WRITEs and FILLs from there on, behind the `made` ones of the first of them: one of the two is 0.
-#[derive(Drop)]
+#[derive(Clone, Copy)]
 pub struct Step {
     pub taken: bool,
     pub from: usize,

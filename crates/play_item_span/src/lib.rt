@@ -1,4 +1,6 @@
 // The item at a place of a file that an earlier pass has checked, as numbers alone.
+#![tactic(auto)]
+
 mod decode;
 mod span;
 

@@ -7,7 +7,7 @@ use base_format::{ENTRY_SIZE, Operation};
 use bytes_read::read_u32;
 
 // `count` writes to a target, upward from an address. Where no item is known all else is 0.
-#[derive(Drop)]
+#[derive(Clone, Copy)]
 pub struct Span {
     pub known: bool,
     pub target: u8,

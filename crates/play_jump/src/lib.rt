@@ -1,4 +1,6 @@
 // A jump over the lent state: it is planned by value, so that a refused jump changes nothing, and then the next state is stored.
+#![tactic(auto)]
+
 ghost use Rattle.play_jump.specs.Jumped.{JumpMade};
 
 use base_format::StreamPlayer;
@@ -6,7 +8,7 @@ use play_plan_jump::plan_jump;
 
 // What a jump tells: number and place of its refusal, or 0 and 0.
 #[repr(C)]
-#[derive(Drop)]
+#[derive(Clone, Copy)]
 pub struct Jumped {
     pub number: u32,
     pub place: u64,

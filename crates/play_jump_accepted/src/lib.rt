@@ -1,5 +1,7 @@
 // The plan of a jump in an accepted file, by value: the state and the index are held against what a start of the file records, and the
 // frame's place is found by the index.
+#![tactic(auto)]
+
 ghost use Rattle.std.specs.Prelude.{◌≡◌};
 ghost use Rattle.base_format.specs.Checked.{refused};
 ghost use Rattle.base_format.specs.Rule.{number_of};
@@ -12,7 +14,7 @@ use index_check::{frame_place, other_index};
 use play_jump_belongs::jump_foreign;
 
 // A jump's plan: number and place of its refusal, or 0 and 0; and the next state. A refused jump's state stays.
-#[derive(Drop)]
+#[derive(Clone, Copy)]
 pub struct JumpPlan {
     pub number: u32,
     pub place: u64,

@@ -1,5 +1,7 @@
 // Whether a jump's state belongs to the lent file (25): what a vsync call tests, how far the closing writes are, and that the state records
 // what a start of that file records.
+#![tactic(auto)]
+
 ghost use Rattle.std.specs.Prelude.{◌≡◌};
 ghost use Rattle.base_format.specs.Jump.{closing_past};
 ghost use Rattle.base_format.specs.State.{part_of};

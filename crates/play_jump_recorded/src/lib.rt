@@ -1,4 +1,6 @@
 // Whether two starts record the same header and the same cards.
+#![tactic(auto)]
+
 mod card;
 mod header;
 

@@ -17,7 +17,7 @@ use Rattle.base_format.specs.Checked.{ok}
 use Rattle.base_format.specs.Operation.{Setting, Item, write_rules, fill_rules, allowed, item_at}
 use Rattle.play_laws.specs.Plan.{count_of, address_of}
 use Rattle.base_format.specs.Player.{setting_in, slot_wrong, card_used, pools_used, item_used}
-use Rattle.base_format.specs.Target.{slot_of, slot_target, target_of, missing, writeLimit, bulkStart, bulkLength}
+use Rattle.base_format.specs.Target.{slot_of, slot_target, target_of, missing, write_limit, bulk_start, bulk_length}
 use Rattle.base_format.specs.Writes.{target_number}
 use Rattle.base_format.proofs.Checks.{through, passed_test, passed_last, passed_check, ok_is}
 use Rattle.base_format.proofs.Rules.{passes_inside, copy_allowed}
@@ -26,7 +26,7 @@ use Rattle.play_laws.proofs.Used.{item_is}
 
 -- where the range of a target ends
 abbrev range_end : Target → ℕ
-range_end what = bulkStart what + bulkLength what
+range_end what = bulk_start what + bulk_length what
 
 slot_small : (cards : List CardRequirement) (slot : ℕ) → slot_wrong cards slot ≡ false → range_end (slot_target cards slot) ≤ 0x2000000
 unfolding slot_target slot_wrong
@@ -59,7 +59,7 @@ range_small setting target e =
     go false p false q false d true false false e = omega arith
     go false p false q false d false g h e = omega arith
 
-limit_small : (what : Target) → writeLimit what ≤ 0x1FFFFFF
+limit_small : (what : Target) → write_limit what ≤ 0x1FFFFFF
 limit_small Core = omega arith
 limit_small Pcm = omega arith
 limit_small Bank = omega arith
@@ -72,7 +72,7 @@ operation_small : (setting : Setting) (place : ℕ) (operation : Operation) → 
 unfolding allowed write_rules fill_rules
 operation_small setting place (Write target address value) fine card =
     let a = passed_test 15 place (missing (target_of setting.version setting.cards target)) fine in
-    let within = ltb-false (writeLimit (target_of setting.version setting.cards target)) address (passed_last 16 place _ a.1) in
+    let within = ltb-false (write_limit (target_of setting.version setting.cards target)) address (passed_last 16 place _ a.1) in
     omega (arith, within, limit_small (target_of setting.version setting.cards target))
 operation_small setting place (Fill target address size value) fine card =
     let a = passed_test 15 place (missing (target_of setting.version setting.cards target)) fine in

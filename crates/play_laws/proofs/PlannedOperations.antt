@@ -22,7 +22,7 @@ use Rattle.base_format.specs.Operation.{Setting, Item, copy_rules, allowed, item
 use Rattle.play_laws.specs.Plan.{count_of, write_at, planned_operations}
 use Rattle.base_format.specs.Player.{setting_in, card_used, pool_used, pools_used, item_used, bytes_at, waves_by, placed, Gathered, gathered}
 use Rattle.base_format.specs.Pool.{pool_at}
-use Rattle.base_format.specs.Target.{slot_target, slot_of, target_of, outside, kindFor}
+use Rattle.base_format.specs.Target.{slot_target, slot_of, target_of, outside, kind_for}
 use Rattle.base_targets.specs.declared.Target.{Target}
 use Rattle.base_targets.specs.declared.Target.TheVariants.{Core, Pcm, Bank, Slot, Si22, Missing}
 use Rattle.base_format.specs.Writes.{write, writes_with, target_number}
@@ -108,21 +108,21 @@ usable state file limit at item e =
     })
 
 -- a kind 1 COPY that is allowed goes to one of 2 × 8 channels
-slot_kind : (cards : List CardRequirement) (slot : ℕ) → kindFor (slot_target cards slot) ≡ 1 → ⊥
+slot_kind : (cards : List CardRequirement) (slot : ℕ) → kind_for (slot_target cards slot) ≡ 1 → ⊥
 unfolding slot_target
 slot_kind [] slot e = omega arith
 slot_kind (card ∷ cards) slot e = go (eqb card.slot slot) (slot_kind cards slot) e
   where
-    go : (b : Bool) → (kindFor (slot_target cards slot) ≡ 1 → ⊥) → kindFor (cond b (Slot card.bulk_start card.bulk_length) (slot_target cards slot)) ≡ 1 → ⊥
+    go : (b : Bool) → (kind_for (slot_target cards slot) ≡ 1 → ⊥) → kind_for (cond b (Slot card.bulk_start card.bulk_length) (slot_target cards slot)) ≡ 1 → ⊥
     go true others e = omega arith
     go false others e = others e
 
-core_only : (version : ℕ) (cards : List CardRequirement) (target : ℕ) → kindFor (target_of version cards target) ≡ 1 → target < 2
+core_only : (version : ℕ) (cards : List CardRequirement) (target : ℕ) → kind_for (target_of version cards target) ≡ 1 → target < 2
 unfolding target_of
 core_only version cards target e =
     ltb-true target 2 (go (ltb target 2) (eqb target 2) (eqb version 3) (eqb target 3) (eqb version 4) (leb target 10) (eqb target 11) e)
   where
-    go : (a b c d f g h : Bool) → kindFor (cond a Core (cond b Pcm (cond c (cond d Bank Missing) (cond f (cond g (slot_target cards (slot_of target)) (cond h Si22 Missing)) Missing)))) ≡ 1 → a ≡ true
+    go : (a b c d f g h : Bool) → kind_for (cond a Core (cond b Pcm (cond c (cond d Bank Missing) (cond f (cond g (slot_target cards (slot_of target)) (cond h Si22 Missing)) Missing)))) ≡ 1 → a ≡ true
     go true b c d f g h e = refl
     go false true c d f g h e = absurd (omega arith)
     go false false true true f g h e = absurd (omega arith)

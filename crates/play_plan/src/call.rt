@@ -15,7 +15,7 @@ use play_plan_taken::{Taken, plan_closing};
 
 // A call's plan: number and place of its refusal, or 0 and 0; how many writes it takes, whether the vsync is then complete, and the
 // next state. A refused call takes no write, and its state stays.
-#[derive(Drop)]
+#[derive(Clone, Copy)]
 pub struct CallPlan {
     pub number: u32,
     pub place: u64,

@@ -7,7 +7,7 @@ use base_format::{CardTable, Header, Operation};
 use check_items::{OperationRead, read_item};
 
 // An operation and the place behind it, or refusal 25.
-#[derive(Drop)]
+#[derive(Clone, Copy)]
 pub enum ItemUsed {
     Used { operation: Operation, next: usize },
     Refused,

@@ -1,4 +1,6 @@
 // The plan of a jump, by value: the file is checked as a start does, and the jump goes by what a start of it records.
+#![tactic(auto)]
+
 ghost use Rattle.std.specs.Prelude.{◌≡◌};
 ghost use Rattle.base_format.specs.Jump.{jumped};
 ghost use Rattle.play_jump_accepted.specs.Told.{jump_told};

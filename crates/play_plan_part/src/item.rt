@@ -7,7 +7,7 @@ use base_format::{StreamPlayer, WaveSource};
 use play_plan_item::{ItemUsed, item_used};
 
 // How many of its writes are still to be made, the place behind it, and the wave sources with its first write made; or refusal 25.
-#[derive(Drop)]
+#[derive(Clone, Copy)]
 pub struct ItemStart {
     pub refused: bool,
     pub rest: u32,

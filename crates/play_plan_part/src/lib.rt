@@ -1,4 +1,6 @@
 // The operations that are left of a part, without their writes: how many writes there is room for, and where the player then is.
+#![tactic(auto)]
+
 mod item;
 mod operations;
 mod waves;

@@ -10,7 +10,7 @@ use base_next_part::operations_left;
 use base_state::placed;
 
 // The room that is left and the progress; or refusal 25.
-#[derive(Drop)]
+#[derive(Clone, Copy)]
 pub struct OperationsPlan {
     pub refused: bool,
     pub room: usize,

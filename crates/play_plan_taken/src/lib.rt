@@ -1,4 +1,6 @@
 // What a call takes of the part that is playing, and what it takes of the closing writes.
+#![tactic(auto)]
+
 mod closing;
 mod taken;
 

@@ -8,7 +8,7 @@ use base_state::frame_ended;
 use play_plan_part::OperationsPlan;
 
 // How many writes, whether the vsync is then complete, and the progress; or refusal 25.
-#[derive(Drop)]
+#[derive(Clone, Copy)]
 pub struct Taken {
     pub refused: bool,
     pub count: usize,

@@ -1,5 +1,7 @@
 // One vsync call over the lent state, file and run, of any state: it is planned by value, so that a refused call changes nothing, and then
 // its records are stored. The player takes quicker ways where it can.
+#![tactic(auto)]
+
 ghost use Rattle.play_planned.specs.Vsync.{Advanced};
 
 use base_format::{StreamPlayer, WriteRecord};
@@ -8,7 +10,7 @@ use play_store::store_call;
 
 // What a call tells: number and place of its refusal, or 0 and 0; how many records it stored, and whether the vsync is complete.
 #[repr(C)]
-#[derive(Drop)]
+#[derive(Clone, Copy)]
 pub struct Vsync {
     pub number: u32,
     pub place: u64,

@@ -1,4 +1,6 @@
 // The records of a vsync call as segments, one after the other. Nothing is stored here.
+#![tactic(auto)]
+
 mod closing;
 mod place;
 mod turn;

@@ -6,7 +6,7 @@ use play_store_segment::Segment;
 
 // `left` closing writes, or operations, are still to do. Of these operations `opening` belong to the opening, and the frame's first one
 // stands at `after`; `done` writes of the operation at `cursor` were made. Of `total` records `room` are free.
-#[derive(Drop)]
+#[derive(Clone, Copy)]
 pub struct Place {
     pub closing: bool,
     pub left: usize,
@@ -19,7 +19,7 @@ pub struct Place {
 }
 
 // A segment, where in the run it goes, and the place behind it.
-#[derive(Drop)]
+#[derive(Clone, Copy)]
 pub struct Turn {
     pub at: usize,
     pub segment: Segment,

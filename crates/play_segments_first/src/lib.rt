@@ -1,4 +1,6 @@
 // Where the records of a call begin.
+#![tactic(auto)]
+
 ghost use Rattle.std.specs.Prelude.{◌≡◌, ◌-◌, ◌<◌};
 ghost use Rattle.base_format.specs.Writes.{closing_count};
 ghost use Rattle.base_format.specs.State.{part_of};

@@ -1,4 +1,6 @@
 // The start of a player, which is `from_bytes` of the original: the file is checked, and what its header says is recorded.
+#![tactic(auto)]
+
 ghost use Rattle.std.specs.Prelude.{◌≡◌};
 ghost use Rattle.base_format.specs.Rule.{verdict_of};
 ghost use Rattle.base_format.specs.State.{started};
@@ -10,7 +12,7 @@ use base_state::{refused_player, unplayed};
 use check_file::{FileAnswer, check_file};
 
 // The verdict on the file, and the player's state. A refused file gives a finished state with recorded size 0.
-#[derive(Drop)]
+#[derive(Clone, Copy)]
 pub struct Started {
     pub verdict: Verdict,
     pub state: StreamPlayer,

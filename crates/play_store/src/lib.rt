@@ -1,4 +1,6 @@
 // The second pass of a vsync call: its records are stored in the lent run, segment after segment.
+#![tactic(auto)]
+
 ghost use Rattle.std.specs.Prelude.{◌≡◌};
 ghost use Rattle.play_store.specs.Stored.{stored_call};
 

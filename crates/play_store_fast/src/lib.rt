@@ -1,5 +1,7 @@
 // The lent run: the records of a step that is taken. They are plain WRITEs' or those of WRITEs and FILLs, so that one of the two
 // stores changes nothing.
+#![tactic(auto)]
+
 ghost use Rattle.std.specs.Prelude.{◌≡◌};
 ghost use Rattle.play_store_fast.specs.Stored.{step_stored};
 

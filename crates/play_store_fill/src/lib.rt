@@ -1,4 +1,6 @@
 // The lent run: the records of successive WRITEs and FILLs, stored straight from the file.
+#![tactic(auto)]
+
 ghost use Rattle.std.specs.Prelude.{◌≡◌, min};
 ghost use Rattle.play_store_fill.specs.Stored.{fills_stored};
 

@@ -1,4 +1,6 @@
 // The lent run: the writes of successive plain WRITEs, stored straight from the file.
+#![tactic(auto)]
+
 ghost use Rattle.std.specs.Prelude.{◌≡◌, ◌+◌, ◌*◌, ◌≤◌, length};
 ghost use Rattle.play_fast_plain.specs.Plain.{plain_size, plain_write};
 ghost use Rattle.base_format.specs.Size.{operation_most};

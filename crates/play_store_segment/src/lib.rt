@@ -1,4 +1,6 @@
 // The lent run: a segment of write records, at successive addresses, of one value or of a part of the file, stored at a place.
+#![tactic(auto)]
+
 ghost use Rattle.std.specs.Prelude.{◌≡◌};
 ghost use Rattle.play_store_segment.specs.Segment.{fitting, segment_stored};
 
@@ -6,7 +8,7 @@ use base_format::WriteRecord;
 use bytes_read::passes;
 
 // `count` records to a target, upward from an address: of one value, or, where `copied`, of as many bytes of the file from a place.
-#[derive(Drop)]
+#[derive(Clone, Copy)]
 pub struct Segment {
     pub target: u8,
     pub address: u32,

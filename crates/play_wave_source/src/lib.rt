@@ -1,4 +1,6 @@
 // `wave_source` of the original: the pool that was last copied to a channel of a core.
+#![tactic(auto)]
+
 ghost use Rattle.std.specs.Prelude.{◌≡◌};
 ghost use Rattle.base_format.specs.State.{pool_in, wave_source};
 ghost use Rattle.play_wave_source.specs.Copied.{copied_pool_of};
@@ -6,7 +8,7 @@ ghost use Rattle.play_wave_source.specs.Copied.{copied_pool_of};
 use base_format::{StreamPlayer, WaveSource};
 
 // The pool last copied; none where none was.
-#[derive(Drop)]
+#[derive(Clone, Copy)]
 pub enum CopiedPool {
     None,
     Pool(u16),

@@ -1,4 +1,6 @@
 // Where the parts of a repacked file start, by the numbers that were measured, and its header.
+#![tactic(auto)]
+
 ghost use Rattle.std.specs.Prelude.{◌≡◌, ◌*◌, ◌≤◌, length};
 ghost use Rattle.base_format.specs.Operation.{size_of};
 ghost use Rattle.base_format.specs.Repack.{pcm_fill};
@@ -11,7 +13,7 @@ use repack_put_items::WIDTH;
 use repack_put_opening::{copy_size, fill_size};
 
 // How many pools and opening operations there are, where payloads, opening and frames start, and where the file ends.
-#[derive(Drop)]
+#[derive(Clone, Copy)]
 pub struct Layout {
     pub pools: usize,
     pub operations: usize,

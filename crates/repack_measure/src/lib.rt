@@ -1,4 +1,6 @@
 // Repacking, its first half: the waves of a master, where they are used, and the size that its frames have when they are repacked.
+#![tactic(auto)]
+
 ghost use Rattle.std.specs.Prelude.{◌≡◌, ◌+◌, ◌*◌, ◌≤◌, ◌<◌, length, set};
 ghost use Rattle.base_master.specs.Places.{frames_end};
 ghost use Rattle.repack_wave_table.specs.Table.{Table};
@@ -17,7 +19,7 @@ use repack_wave_table::{BUCKETS, MOST, add_wave};
 pub const SPOTS: usize = 11469;
 
 // How many waves are known, how often they are used, and the size of what was measured.
-#[derive(Drop)]
+#[derive(Clone, Copy)]
 pub struct Measure {
     pub waves: usize,
     pub uses: usize,

@@ -1,4 +1,6 @@
 // The answer of repacking, and the last of its stages: a master whose PCM records run in order, by the refusals 23 and 24.
+#![tactic(auto)]
+
 ghost use Rattle.std.specs.Prelude.{◌≡◌};
 ghost use Rattle.repack_ordered.specs.Answer.{repacked_of, refused_by, Ordered, Repacks};
 
@@ -9,7 +11,7 @@ use repack_put_file::write_master;
 use repack_wave_table::{BUCKETS, MOST};
 
 // The length of the repacked file, or the refusal.
-#[derive(Drop)]
+#[derive(Clone, Copy)]
 pub enum Repacked {
     Written(usize),
     Refused(Refusal),

@@ -1,4 +1,6 @@
 // The directory of a repacked file: the PCM pool, if there is one, and the waves.
+#![tactic(auto)]
+
 ghost use Rattle.std.specs.Prelude.{◌≡◌, ◌+◌, ◌*◌, ◌≤◌, ◌<◌, length};
 ghost use Rattle.bytes_read.specs.Put.{put};
 ghost use Rattle.repack_put_directory.specs.Directory.{wave_entries, directory_of};

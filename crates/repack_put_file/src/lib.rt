@@ -1,4 +1,6 @@
 // Writes a repacked file, part by part, into a buffer that holds it.
+#![tactic(auto)]
+
 ghost use Rattle.std.specs.Prelude.{◌≡◌, ◌≤◌, length};
 ghost use Rattle.base_format.specs.Repack.{repacked};
 ghost use Rattle.base_format.specs.Size.{file_limit};

@@ -1,5 +1,7 @@
 // The frames of a repacked file: each a count of its operations, then a COPY for each wave and a WRITE for each other record. Where a
 // wave starts, and which one, was noted when the master was measured.
+#![tactic(auto)]
+
 ghost use Rattle.std.specs.Prelude.{◌≡◌, ◌+◌, ◌*◌, ◌≤◌, ◌<◌, length};
 ghost use Rattle.base_format.specs.Bytes.{be};
 ghost use Rattle.base_format.specs.Size.{record_size};
@@ -18,7 +20,7 @@ use repack_put_items::{WIDTH, put_record, put_wave_copy};
 use repack_wave_table::MOST;
 
 // How many pieces were written, where the last one ends, and how many uses of waves there are up to there.
-#[derive(Drop)]
+#[derive(Clone, Copy)]
 pub struct Pieces {
     pub count: usize,
     pub next: usize,

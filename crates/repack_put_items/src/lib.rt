@@ -1,5 +1,7 @@
 // The operations that a master's records become: a WRITE for a record, a COPY for the records of a wave. A repacked file has version 2, so
 // that its addresses have 3 bytes.
+#![tactic(auto)]
+
 ghost use Rattle.std.specs.Prelude.{◌≡◌, ◌+◌, ◌≤◌, length};
 ghost use Rattle.base_format.specs.declared.operation.Operation.TheVariants.{Copy};
 ghost use Rattle.base_format.specs.Bytes.{byte, be};

@@ -1,5 +1,7 @@
 // The opening: whether a master's PCM records are in order, and the opening of its repacked file: a FILL of the PCM memory that was
 // not written, the core records, a COPY of the PCM bytes.
+#![tactic(auto)]
+
 ghost use Rattle.std.specs.Prelude.{◌≡◌, ◌+◌, ◌*◌, ◌≤◌, ◌<◌, length};
 ghost use Rattle.bytes_read.specs.Put.{put};
 ghost use Rattle.base_master.specs.Places.{records_at};
@@ -13,7 +15,7 @@ use bytes_put_operation::{put_copy, put_fill};
 use repack_put_items::{WIDTH, put_record, record_at};
 
 // The opening's PCM records: how many there are, if their addresses run 0, 1, 2 and so on.
-#[derive(Drop)]
+#[derive(Clone, Copy)]
 pub enum PcmRun {
     InOrder(usize),
     OutOfOrder,

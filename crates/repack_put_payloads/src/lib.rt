@@ -1,4 +1,6 @@
 // The payloads of a repacked file: the opening's PCM bytes, and the waves.
+#![tactic(auto)]
+
 ghost use Rattle.std.specs.Prelude.{◌≡◌, ◌+◌, ◌*◌, ◌≤◌, length};
 ghost use Rattle.bytes_read.specs.Put.{put};
 ghost use Rattle.base_master.specs.Places.{wave_at};

@@ -1,4 +1,6 @@
 // The bytes of a wave: whether two waves have the same, and a hash of them.
+#![tactic(auto)]
+
 ghost use Rattle.std.specs.Prelude.{◌≡◌, ◌+◌, ◌≤◌, ◌<◌, length};
 ghost use Rattle.base_format.specs.Bytes.{same_bytes};
 ghost use Rattle.base_format.specs.Size.{wave_records_size};

@@ -1,4 +1,6 @@
 // Whether a wave starts at a place of a master: 256 records to one core at consecutive addresses.
+#![tactic(auto)]
+
 ghost use Rattle.std.specs.Prelude.{◌≡◌, ◌+◌, ◌*◌, ◌≤◌, ◌<◌, length};
 ghost use Rattle.base_format.specs.Repack.{runs, starts_wave};
 ghost use Rattle.base_format.specs.Size.{record_size, wave_records_size};

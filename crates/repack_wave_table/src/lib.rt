@@ -1,5 +1,7 @@
 // The waves of a master, told apart by their bytes: a table of the places where each was first used, with chains of the waves that
 // share a bucket.
+#![tactic(auto)]
+
 ghost use Rattle.std.specs.Prelude.{◌≡◌, ◌+◌, ◌*◌, ◌≤◌, ◌<◌, length};
 ghost use Rattle.base_format.specs.Repack.{place_of};
 ghost use Rattle.base_format.specs.Size.{wave_records_size, file_limit};
@@ -58,7 +60,7 @@ fn wave_number(
 }
 
 // The number of a wave, counted from 0, and how many waves are known with it.
-#[derive(Drop)]
+#[derive(Clone, Copy)]
 pub struct Numbered {
     pub number: usize,
     pub waves: usize,

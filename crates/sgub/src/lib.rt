@@ -1,5 +1,7 @@
 // The static library's surface: include/sgub.h declares these functions for C, rust/sgub for Rust. What an answer is as plain numbers
 // is in the crates sgub_answers, sgub_player, sgub_pool_list, sgub_results, sgub_join and sgub_pitch.
+#![tactic(auto)]
+
 mod comparison;
 mod indexing;
 mod joining;

@@ -10,7 +10,7 @@ use check_file::{FileAnswer, FileCheck};
 
 // A card; all 0 from the card count on, and where the file is refused.
 #[repr(C)]
-#[derive(Drop)]
+#[derive(Clone, Copy)]
 pub struct SgubCard {
     pub number: u32,
     pub place: u64,

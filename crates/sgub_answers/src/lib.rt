@@ -1,4 +1,6 @@
 // The answers about a file, its cards and its pools as plain numbers, for C and Rust: the kit exports no type that holds an enum.
+#![tactic(auto)]
+
 mod card;
 mod pool;
 mod verdict;

@@ -7,7 +7,7 @@ use check_pool_lookup::PoolFound;
 
 // A pool: its kind, and the part of the file that is its payload; or the refusal of the file.
 #[repr(C)]
-#[derive(Drop)]
+#[derive(Clone, Copy)]
 pub struct SgubPool {
     pub number: u32,
     pub place: u64,

@@ -8,7 +8,7 @@ use check_file::{FileAnswer, FileCheck};
 
 // The verdict on a file. Where it is refused, all that follows the place is 0.
 #[repr(C)]
-#[derive(Drop)]
+#[derive(Clone, Copy)]
 pub struct SgubVerdict {
     pub number: u32,
     pub place: u64,

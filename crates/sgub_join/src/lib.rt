@@ -1,4 +1,6 @@
 // The answer of joining as plain numbers, for C and Rust: the kit exports no type that holds an enum.
+#![tactic(auto)]
+
 ghost use Rattle.std.specs.Prelude.{◌≡◌};
 ghost use Rattle.join.specs.Answer.{joined_of};
 ghost use Rattle.sgub_join.specs.Surface.{joined_on, refused_on};
@@ -9,7 +11,7 @@ use join::Joined;
 // Which file is refused (0 none, or both together; 1 the first, 2 the second), by which number and where; and the length of the joined
 // file, which stands at the buffer's start.
 #[repr(C)]
-#[derive(Drop)]
+#[derive(Clone, Copy)]
 pub struct SgubJoined {
     pub file: u32,
     pub number: u32,

@@ -1,4 +1,6 @@
 // The answer of `frequency` as plain numbers, for C and Rust: the kit exports no type that holds an enum.
+#![tactic(auto)]
+
 ghost use Rattle.std.specs.Prelude.{◌≡◌};
 ghost use Rattle.pitch_frequency.specs.Frequency.{pitched_of};
 ghost use Rattle.sgub_pitch.specs.Surface.{frequency_on};
@@ -7,7 +9,7 @@ use pitch_frequency::Pitched;
 
 // The pitch; or the refusal, with pitch 0.
 #[repr(C)]
-#[derive(Drop)]
+#[derive(Clone, Copy)]
 pub struct SgubFrequency {
     pub number: u32,
     pub place: u64,

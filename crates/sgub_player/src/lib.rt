@@ -1,4 +1,6 @@
 // The answers of a player's start and of its wave sources as plain numbers, for C and Rust: the kit exports no type that holds an enum.
+#![tactic(auto)]
+
 ghost use Rattle.std.specs.Prelude.{◌≡◌};
 ghost use Rattle.base_format.specs.Rule.{verdict_of};
 ghost use Rattle.play_wave_source.specs.Copied.{copied_pool_of};
@@ -10,7 +12,7 @@ use play_wave_source::CopiedPool;
 
 // The verdict on a file, and the player's state; that of a refused file is finished.
 #[repr(C)]
-#[derive(Drop)]
+#[derive(Clone, Copy)]
 pub struct SgubStarted {
     pub number: u32,
     pub place: u64,

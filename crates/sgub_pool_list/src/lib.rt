@@ -1,4 +1,6 @@
 // Lists the pools of a file into a lent run of entries, stored straight from the directory.
+#![tactic(auto)]
+
 mod listing;
 
 ghost use Rattle.std.specs.Prelude.{◌≡◌, ◌<◌, ◌^◌, min};
@@ -11,7 +13,7 @@ pub use listing::{PoolListing, SgubPools, pool_listing};
 
 // An entry of the directory.
 #[repr(C)]
-#[derive(Drop)]
+#[derive(Clone, Copy)]
 pub struct SgubPoolEntry {
     pub kind: u8,
     pub size: u32,

@@ -7,7 +7,7 @@ use check_file::{FileAnswer, check_file};
 
 // The verdict on a file, and how many pools it has.
 #[repr(C)]
-#[derive(Drop)]
+#[derive(Clone, Copy)]
 pub struct SgubPools {
     pub number: u32,
     pub place: u64,
@@ -15,7 +15,7 @@ pub struct SgubPools {
 }
 
 // The same, with the directory whose entries are to be stored: of a refused file there are none.
-#[derive(Drop)]
+#[derive(Clone, Copy)]
 pub struct PoolListing {
     pub answer: SgubPools,
     pub directory: u32,

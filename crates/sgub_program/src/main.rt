@@ -1,4 +1,6 @@
 // Checks the file on standard input, of up to 65,536 bytes, and prints its verdict in one line.
+#![tactic(auto)]
+
 use base_format::{Header, Refusal};
 use check_file::FileAnswer;
 use libc::{STDIN_FILENO, STDOUT_FILENO};

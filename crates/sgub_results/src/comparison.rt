@@ -10,7 +10,7 @@ use compare::Comparison;
 
 // Which file is refused (0 none, 1 the master, 2 the other), by which number and where; and whether the files agree.
 #[repr(C)]
-#[derive(Drop)]
+#[derive(Clone, Copy)]
 pub struct SgubCompared {
     pub file: u32,
     pub number: u32,

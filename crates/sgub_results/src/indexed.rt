@@ -7,7 +7,7 @@ use index_build::Indexed;
 
 // The length of the index, which stands at the buffer's start; or the refusal, with nothing written.
 #[repr(C)]
-#[derive(Drop)]
+#[derive(Clone, Copy)]
 pub struct SgubIndexed {
     pub number: u32,
     pub place: u64,

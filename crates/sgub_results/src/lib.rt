@@ -1,4 +1,6 @@
 // The answers of building an index, repacking and comparing as plain numbers, for C and Rust: the kit exports no type that holds an enum.
+#![tactic(auto)]
+
 mod comparison;
 mod indexed;
 mod repacked;

@@ -7,7 +7,7 @@ use repack_ordered::Repacked;
 
 // The length of the repacked file, which stands at the buffer's start; or the refusal, with nothing written.
 #[repr(C)]
-#[derive(Drop)]
+#[derive(Clone, Copy)]
 pub struct SgubRepacked {
     pub number: u32,
     pub place: u64,

@@ -1,5 +1,7 @@
 // Replays stored comparisons: data/compares.bin has, for each, the lengths of a master and of another file, the two files, and 32 bytes
 // of rooms and answers, numbers of four bytes. rust/README.md says how it is made.
+#![tactic(auto)]
+
 mod answer;
 mod lent;
 

@@ -1,5 +1,7 @@
 // Replays stored files and their indexes: data/indexes.bin has, for each, the file's length and bytes, the room that is lent, the refusal's
 // number and place, and the index's length and bytes. Numbers have four bytes. rust/README.md says how it is made.
+#![tactic(auto)]
+
 ghost use Rattle.std.specs.Prelude.{◌≡◌, ◌<◌, length};
 
 use index_build::Indexed;

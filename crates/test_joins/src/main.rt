@@ -1,6 +1,8 @@
 // Replays stored pairs of files and their joinings: data/joins.bin has, for each, the lengths of both files, how many bytes of each are
 // stored (those behind are 0), these bytes, the room that is lent, the file that is refused, the refusal's number and place, and the
 // result's length and bytes. Numbers have four bytes. rust/README.md says how it is made.
+#![tactic(auto)]
+
 mod answer;
 
 ghost use Rattle.std.specs.Prelude.{◌≡◌, ◌<◌, length};

@@ -1,5 +1,7 @@
 // Replays stored scripts of vsync calls and jumps: data/jumps.bin has, for each, the lengths of two files and of their indexes and the number
 // of steps, each of four bytes, then the files and the indexes, and 32 bytes for each step. rust/README.md says how it is made.
+#![tactic(auto)]
+
 mod parts;
 mod step;
 mod told;

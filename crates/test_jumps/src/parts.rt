@@ -3,7 +3,7 @@
 use test_vectors::next_number;
 
 // The lengths of the files and of their indexes, and the number of steps.
-#[derive(Drop)]
+#[derive(Clone, Copy)]
 pub(crate) struct Lengths {
     pub(crate) file: u32,
     pub(crate) other: u32,

@@ -10,7 +10,7 @@ use test_records::mix_call;
 use test_vectors::BASIS;
 
 // Whether the answer was the stored one, and the player behind the step.
-#[derive(Drop)]
+#[derive(Clone, Copy)]
 pub(crate) struct Replayed {
     pub(crate) same: bool,
     pub(crate) next: StreamPlayer,

@@ -4,7 +4,7 @@ use test_vectors::mix;
 
 // The refusal, or 0 and 0; what a vsync call says, which a jump does not; and the player behind the step. `sum` is made of the records, and
 // then of the wave sources.
-#[derive(Drop)]
+#[derive(Clone, Copy)]
 pub(crate) struct Told {
     number: u32,
     place: u64,

@@ -1,5 +1,7 @@
 // Replays stored pitches: data/pitches.bin has four bytes for each pair of a note and a shift: the note, the shift as a signed byte, and the
 // pitch in two bytes, which is 0 where the pair is refused. 0xFFFFFFFF ends the list. rust/README.md says how it is made.
+#![tactic(auto)]
+
 ghost use Rattle.std.specs.Prelude.{◌≡◌, ◌<◌};
 ghost use Rattle.std.specs.Int.{w8};
 ghost use Rattle.std.proofs.Common.{to_z};

@@ -5,14 +5,14 @@ use play_plan::plan_call;
 use test_records::mix_call;
 
 // Whether the answer was the stored one, and the player behind the call.
-#[derive(Drop)]
+#[derive(Clone, Copy)]
 pub struct Replayed {
     pub same: bool,
     pub next: StreamPlayer,
 }
 
 // A call's answer.
-#[derive(Drop)]
+#[derive(Clone, Copy)]
 struct Told {
     flags: u8,
     count: usize,

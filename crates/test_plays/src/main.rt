@@ -1,5 +1,7 @@
 // Replays stored vsync calls: data/plays.bin has, for each script, the length of a file and the number of calls, each of four bytes,
 // the file, and 16 bytes for each call. rust/README.md says how it is made.
+#![tactic(auto)]
+
 mod call;
 
 ghost use Rattle.std.specs.Prelude.{◌<◌};

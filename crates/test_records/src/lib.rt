@@ -1,5 +1,7 @@
 // The records of a vsync call as one number, so that few bytes are stored for a call. The records are those that `store_call` stores,
 // made by the same two functions.
+#![tactic(auto)]
+
 ghost use Rattle.std.specs.Prelude.{◌≡◌, ◌+◌};
 ghost use Rattle.base_format.specs.Bytes.{byte};
 ghost use Rattle.test_records.specs.Mixed.{record_mixed, value_at, segment_mixed, mixed_call};

@@ -1,5 +1,7 @@
 // Replays stored masters and their repackings: data/repacks.bin has, for each, the master's length and bytes, the room that is lent,
 // the refusal's number and place, and the result's length and bytes. Numbers have four bytes. rust/README.md says how it is made.
+#![tactic(auto)]
+
 ghost use Rattle.std.specs.Prelude.{◌≡◌, ◌<◌, length};
 
 use repack_ordered::Repacked;

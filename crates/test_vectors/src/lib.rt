@@ -1,5 +1,7 @@
 // What the programs that replay stored answers share: they read a list from a file, compare each answer with the stored one, and print
 // two counts. Nothing says that a file ends, so its entries are counted down from a number that no list has.
+#![tactic(auto)]
+
 ghost use Rattle.std.specs.Prelude.{◌≡◌, ◌+◌, ◌*◌, ◌%◌, ◌^◌, ◌<◌, not, take};
 ghost use mir.Val.{bool_byte};
 ghost use Rattle.base_format.specs.Bytes.{be};
@@ -15,7 +17,7 @@ pub const END: u32 = 0xFFFFFFFF;
 pub const BASIS: u32 = 0x811C9DC5;
 
 // How many answers were as stored, how many were not, and how many entries may still be read.
-#[derive(Drop)]
+#[derive(Clone, Copy)]
 pub struct Counts {
     pub same: u64,
     pub different: u64,

@@ -1,12 +1,14 @@
 // Replays stored files and their answers: data/verdicts.bin has, for each file, its length, its bytes and five numbers, each of
 // four bytes: the refusal's number and place, and version, frames and opening of an accepted file. rust/README.md says how it is made.
+#![tactic(auto)]
+
 ghost use Rattle.std.specs.Prelude.{◌<◌};
 
 use check_file::FileAnswer;
 use test_vectors::Counts;
 
 // A file's answer as the five numbers.
-#[derive(Drop)]
+#[derive(Clone, Copy)]
 struct Answer {
     number: u32,
     place: u64,

@@ -5,7 +5,7 @@ use mathlib.Core.Path.{◌≡◌, refl, ap, ◌∙◌}
 use Rattle.base_format.specs.declared.card.CardTable.{CardTable}
 use Rattle.base_targets.specs.declared.Target.{Target}
 use Rattle.base_format.specs.Card.{cards_of}
-use Rattle.base_format.specs.Target.{target_of, bulkStart, kindFor}
+use Rattle.base_format.specs.Target.{target_of, bulk_start, kind_for}
 use Rattle.check_fast_limits.specs.Limits.{write_end, bulk_end, limit_table}
 use Rattle.check_fast_limits.proofs.Tabled.{Filled, filled_none, filled_next, filled_all}
 use Rattle.check_fast_limits.proofs.limit_table.Statement.{statement}
@@ -19,9 +19,9 @@ abbrev invariant_loop : tie.invariant-loop
 invariant_loop version cards starts₀ ends₀ bulks₀ kinds₀ number₀ writes starts ends kinds number =
     (number ≤ 12)
     × Filled (by write_end version cards) number writes
-    × Filled (by bulkStart version cards) number starts
+    × Filled (by bulk_start version cards) number starts
     × Filled (by bulk_end version cards) number ends
-    × Filled (by kindFor version cards) number kinds
+    × Filled (by kind_for version cards) number kinds
 
 abbrev decreases_loop : tie.decreases-loop
 decreases_loop version cards starts₀ ends₀ bulks₀ kinds₀ number₀ writes starts ends kinds number = 12 - number
@@ -38,9 +38,9 @@ loop_again c =
     let t = find.find-target.ensures in (
       omega arith,
       filled_next _ _ _ _ i.1 less (c.before.before.before.write-end.ensures ∙ ap write_end t),
-      filled_next _ _ _ _ i.2 less (c.before.before.bulk-start.ensures ∙ ap bulkStart t),
+      filled_next _ _ _ _ i.2 less (c.before.before.bulk-start.ensures ∙ ap bulk_start t),
       filled_next _ _ _ _ i.3 less (c.before.bulk-end.ensures ∙ ap bulk_end t),
-      filled_next _ _ _ _ i.4 less (c.kind.ensures ∙ ap kindFor t),
+      filled_next _ _ _ _ i.4 less (c.kind.ensures ∙ ap kind_for t),
     )
 
 returns : tie.Need-returns invariant_loop decreases_loop
