@@ -39,7 +39,7 @@ table_cards cards = take-append_seam cards _
 
 -- a table that a function is handed has eight cards: `vs` is what `c.good` says of the parameter
 pub eight : (table : CardTable) (vs : List Val) → Is (Declared.row the_type) table vs → length table.cards ≡ 8
-eight table vs good = simp length-map at good.1.1.0.1.0.1
+eight table vs good = good.1.1.0.1.0.1
 
 -- the cards of a table are at most the eight that it has
 pub held_cards : (table : CardTable) → length table.cards ≡ 8 → cards_of table ≡ take (min table.count 8) table.cards

@@ -5,8 +5,8 @@ use mathlib.Core.List.{List, [], ◌∷◌, ◌++◌}
 use mathlib.Core.Path.{◌≡◌, refl, ap, ap₂}
 use native.Mathlib.Omega.{arith}
 use borrow.Author.Tests.{eq-eqb, eqb-true}
-use lib.Dec.{ltb}
-use lib.ListN.{length, get_or}
+use lib.Dec.{ltb, eqb}
+use lib.ListN.{length, get_or, set}
 use Rattle.base_format.specs.declared.operation.Operation.{Operation}
 use Rattle.base_format.specs.declared.operation.WriteRecord.{WriteRecord}
 use Rattle.base_format.specs.Bytes.{same_bytes}
@@ -98,4 +98,4 @@ core_append (w ∷ a) b = rw (core_append a b) (go (ltb w.target 2))
 pub played_append : (memory : List ℕ) (a b : List WriteRecord) → played memory (a ++ b) ≡ played (played memory a) b
 unfolding played
 played_append memory [] b = refl
-played_append memory (w ∷ a) b = played_append _ a b
+played_append memory (w ∷ a) b = played_append (cond (eqb w.target 2) (set memory w.address w.value) memory) a b
