@@ -1,5 +1,5 @@
 -- The parts of a body: a walk names a statement, what is left after it, and the arms of a branch by them.
-use mir.Syntax.{Body, skip, seq, assign, block, loop, cond, switch, exit, return, call}
+use mir.Syntax.{Body, skip, seq, assign, block, loop, cond, switch, exit, return, call, unreachable, call_v, lend_static}
 
 -- the two parts of a body that has two
 abbrev parts : Body → Body × Body
@@ -13,6 +13,9 @@ parts (switch c arms) = (skip, skip)
 parts (exit n) = (skip, skip)
 parts return = (skip, skip)
 parts (call f xs p) = (skip, skip)
+parts unreachable = (skip, skip)
+parts (call_v _ _ _ _) = (skip, skip)
+parts (lend_static _ _ _) = (skip, skip)
 
 -- of statements in a row
 abbrev pub head_of : Body → Body

@@ -11,43 +11,43 @@ use Rattle.bytes_same.proofs.Equal.{bytes_step, bytes_end, bytes_differ}
 use Rattle.bytes_same.proofs.same_bytes.Statement.{statement}
 use Rattle.bytes_same.proofs.same_bytes.Tie as tie
 
-abbrev invariant_loop : tie.invariant-loop
+abbrev invariant_loop : tie.invariant-loop-i
 invariant_loop a b i₀ i =
     (length a ≡ length b) × (i ≤ length a) × (same_bytes a b ≡ same_bytes (drop i a) (drop i b))
 
-abbrev decreases_loop : tie.decreases-loop
+abbrev decreases_loop : tie.decreases-loop-i
 decreases_loop a b i₀ i =
     length a - i
 
-returns : tie.Need-returns invariant_loop decreases_loop
+returns : tie.Need-returns-then-a-b invariant_loop decreases_loop
 returns c =
     let a = c.before.args in
-    sym (bytes_differ a.a.now a.b.now c.if1.true)
+    sym (bytes_differ a.a.now a.b.now c.if-a-b.true)
 
-shared_slice_read_if2_2 : tie.Need-shared-slice-read-if2-2 invariant_loop decreases_loop
+shared_slice_read_if2_2 : tie.Need-bounds-b-i invariant_loop decreases_loop
 shared_slice_read_if2_2 c =
-    let l = c.before.before.before.loop in
+    let l = c.before.before.before.loop-i in
     omega (arith, l.invariant.0)
 
-returns_2 : tie.Need-returns-2 invariant_loop decreases_loop
+returns_2 : tie.Need-returns-then-a-i invariant_loop decreases_loop
 returns_2 c =
-    let l = c.before.before.before.before.loop in
+    let l = c.before.before.before.before.loop-i in
     let a = c.before.before.before.before.before.before.args in
-    rw (l.invariant.2, bytes_step a.a.now a.b.now l.i (omega arith) (omega (arith, l.invariant.0)), ne_eqb _ _ c.if2.true)
+    rw (l.invariant.2, bytes_step a.a.now a.b.now l.i (omega arith) (omega (arith, l.invariant.0)), ne_eqb _ _ c.if-a-i.true)
 
-loop_again : tie.Need-loop-preserved invariant_loop decreases_loop
+loop_again : tie.Need-loop-i-preserved invariant_loop decreases_loop
 loop_again c =
-    let l = c.before.before.before.before.loop in
+    let l = c.before.before.before.before.loop-i in
     let a = c.before.before.before.before.before.before.args in
-    (l.invariant.0, omega arith, l.invariant.2 ∙ bytes_step a.a.now a.b.now l.i (omega arith) (omega (arith, l.invariant.0)) ∙ rw (eq-eqb _ _ c.if2.false))
+    (l.invariant.0, omega arith, l.invariant.2 ∙ bytes_step a.a.now a.b.now l.i (omega arith) (omega (arith, l.invariant.0)) ∙ rw (eq-eqb _ _ c.if-a-i.false))
 
-returns_3 : tie.Need-returns-3 invariant_loop decreases_loop
+returns_3 : tie.Need-returns invariant_loop decreases_loop
 returns_3 c =
-    let l = c.before.loop in
+    let l = c.before.loop-i in
     let a = c.before.before.before.args in
     rw l.invariant.2 (sym (bytes_end a.a.now a.b.now l.i (omega arith) (omega (arith, l.invariant.0))))
 
 pub same_bytes_spec : {M : Type 1} → statement M
 same_bytes_spec =
     tie.close
-    (tie.spec invariant_loop decreases_loop returns (λ c. (c.if1.false, omega arith, refl)) (search rules) shared_slice_read_if2_2 returns_2 (search rules) (search rules) loop_again returns_3)
+    (tie.spec invariant_loop decreases_loop returns (λ c. (c.if-a-b.false, omega arith, refl)) (search rules) shared_slice_read_if2_2 returns_2 (search rules) (search rules) loop_again returns_3)

@@ -6,7 +6,7 @@ use Rattle.bytes_store.proofs.store_3.Statement.{statement}
 use Rattle.bytes_store.proofs.store_3.Tie as tie
 
 returns : tie.Need-returns
-returns c = rw c.before.before.store-2.ensures (put_next _ _ _ _ (omega arith))
+returns c = rw c.before.before.store_2.ensures (put_next _ _ _ _ (omega arith))
 
 pub store_3_spec : {M : Type 1} → statement M
 store_3_spec = tie.close (tie.spec (search rules) (search rules) (search rules) (search rules) (λ c. search rules) returns)
