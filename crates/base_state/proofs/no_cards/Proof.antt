@@ -6,7 +6,7 @@ use Rattle.base_state.proofs.no_cards.Tie as tie
 
 returns : tie.Need-returns
 unfolding table_of
-returns c = rw c.no-card.ensures
+returns c = rw c.no_card-none.ensures
 
 pub no_cards_spec : {M : Type 1} → statement M
 no_cards_spec = tie.close (tie.spec (search rules) returns)

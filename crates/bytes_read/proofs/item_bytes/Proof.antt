@@ -9,20 +9,20 @@ use mathlib.Core.List.{[]}
 use Rattle.bytes_read.proofs.item_bytes.Statement.{statement}
 use Rattle.bytes_read.proofs.item_bytes.Tie as tie
 
-returns : tie.Need-returns
+returns : tie.Need-returns-then-file-at
 returns c =
     let a = c.before.before.before.args in
     let past : drop a.at a.file.now ≡ [] = drop_of_length-le a.file.now {i = a.at} (omega arith) in
     rw past
 
-returns_2 : tie.Need-returns-2
+returns_2 : tie.Need-returns-then-file-at-lt16
 returns_2 c =
     let a = c.before.before.before.before.args in
     let rest = drop a.at a.file.now in
     let left : length rest ≡ length a.file.now - a.at = length-drop a.at a.file.now in
     rw (take_all (length a.file.now - a.at) rest (omega arith), take_all 16 rest (omega arith))
 
-returns_3 : tie.Need-returns-3
+returns_3 : tie.Need-returns
 returns_3 c = c.window.ensures
 
 pub item_bytes_spec : {M : Type 1} → statement M

@@ -5,27 +5,27 @@ use Rattle.base_format.proofs.Decided.{decided}
 use Rattle.check_copy_pool.proofs.copy_wrong.Statement.{statement}
 use Rattle.check_copy_pool.proofs.copy_wrong.Tie as tie
 
-returns : tie.Need-returns
+returns : tie.Need-returns-then-size-end
 unfolding copy_wrong
 returns c = search decided
 
-returns_2 : tie.Need-returns-2
+returns_2 : tie.Need-returns-then-kind
 unfolding copy_wrong
 returns_2 c = search (decided, ← c.before.kind.ensures)
 
-returns_3 : tie.Need-returns-3
+returns_3 : tie.Need-returns-then-kind-ne1
 unfolding copy_wrong
 returns_3 c = search (decided, ← c.before.before.kind.ensures)
 
-returns_4 : tie.Need-returns-4
+returns_4 : tie.Need-returns-then-address-ne0
 unfolding copy_wrong
 returns_4 c = search (decided, ← c.before.before.before.kind.ensures)
 
-returns_5 : tie.Need-returns-5
+returns_5 : tie.Need-returns-then-source-ne0
 unfolding copy_wrong
 returns_5 c = search (decided, ← c.before.before.before.before.kind.ensures)
 
-returns_6 : tie.Need-returns-6
+returns_6 : tie.Need-returns
 unfolding copy_wrong
 returns_6 c = search (decided, ← c.before.before.before.before.kind.ensures)
 

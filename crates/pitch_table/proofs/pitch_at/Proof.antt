@@ -26,10 +26,10 @@ rule s = refl
 found : (s : tie.Start) (place : ℕ) → place < 224 → place ≡ s.args.place → get_or (list s) place 0 ≡ pitch_of (sum_at s.args.place)
 found s place h is = entry_is (list s) (rule s) place h ∙ ap (λ (n : ℕ). pitch_of (sum_at n)) is
 
-returns : tie.Need-returns
+returns : tie.Need-returns-then-place-lt112
 returns c = found c.before (c.before.args.place % 112) (omega arith) (omega (arith, c.if1.true))
 
-returns_2 : tie.Need-returns-2
+returns_2 : tie.Need-returns
 returns_2 c = found c.before (112 + c.before.args.place % 112) (omega (arith, c.before.requires)) (omega (arith, c.before.requires, c.if1.false))
 
 pub pitch_at_spec : {M : Type 1} → statement M

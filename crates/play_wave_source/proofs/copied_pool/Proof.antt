@@ -3,4 +3,4 @@ use Rattle.play_wave_source.proofs.copied_pool.Statement.{statement}
 use Rattle.play_wave_source.proofs.copied_pool.Tie as tie
 
 pub copied_pool_spec : {M : Type 1} → statement M
-copied_pool_spec = tie.close (tie.spec (λ c. simp c.if1.true) (λ c. simp c.if1.false))
+copied_pool_spec = tie.close (tie.spec (λ c. simp c.if-source.true) (λ c. simp c.if-source.false))

@@ -5,9 +5,9 @@ use Rattle.base_format.proofs.Decided.{decided}
 use Rattle.play_wave_source.proofs.wave_source.Statement.{statement}
 use Rattle.play_wave_source.proofs.wave_source.Tie as tie
 
-returns : tie.Need-returns
+returns : tie.Need-returns-then-channel-lt8
 unfolding wave_source
-returns c = rw c.copied-pool.ensures (search decided)
+returns c = rw c.copied_pool.ensures (search decided)
 
 pub wave_source_spec : {M : Type 1} → statement M
 unfolding wave_source

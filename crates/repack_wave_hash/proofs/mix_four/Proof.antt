@@ -8,7 +8,7 @@ use Rattle.repack_wave_hash.proofs.mix_four.Tie as tie
 
 returns : tie.Need-returns
 unfolding mixed
-returns c = (rw (c.before.before.before.wide-byte.ensures.0, c.before.before.wide-byte2.ensures.0, c.before.wide-byte3.ensures.0, c.wide-byte4.ensures.0), mod-lt _ (lit< tt))
+returns c = (rw (c.before.before.before.wide_byte.ensures.0, c.before.before.wide_byte-2.ensures.0, c.before.wide_byte-3.ensures.0, c.wide_byte-4.ensures.0), mod-lt _ (lit< tt))
 
 pub mix_four_spec : {M : Type 1} → statement M
 mix_four_spec =

@@ -6,70 +6,70 @@ use Rattle.repack_wave_table.proofs.Table.{added_known, added_new}
 use Rattle.repack_wave_table.proofs.add_wave.Statement.{statement}
 use Rattle.repack_wave_table.proofs.add_wave.Tie as tie
 
-wave_number_requires : tie.Need-wave-number-requires
+wave_number_requires : tie.Need-wave_number-number-requires
 wave_number_requires c κs = (c.before.before.before.before.before.requires.0, c.before.before.before.bucket.ensures, c.before.before.before.before.before.requires.1)
 
-returns : tie.Need-returns
+returns : tie.Need-returns-then-number-count
 returns c =
     let s = c.before.before.before.before.before.before.before in
     let a = s.args in
-    added_known a.file.now a.heads.now a.next.now a.places.now a.count a.at s.requires.0 _ c.before.wave-number.ensures c.if1.true
+    added_known a.file.now a.heads.now a.next.now a.places.now a.count a.at s.requires.0 _ c.before.wave_number-number.ensures c.if-number-count.true
 
-mul_next : tie.Need-overflow-mul-next
+mul_next : tie.Need-offset_bounds-heads-bucket
 mul_next c =
     let t = c.before.before.before.before.before in
     let s = t.before.before in
     omega (arith, t.bucket.ensures, bucket_below s.args.file.now s.args.at)
 
-element_copy_out_next : tie.Need-element-copy-out-next
+element_copy_out_next : tie.Need-bounds-heads-bucket
 element_copy_out_next c =
     let t = c.before.before.before.before.before in
     let s = t.before.before in
     omega (arith, t.bucket.ensures, bucket_below s.args.file.now s.args.at)
 
-mul_next_2 : tie.Need-overflow-mul-next-2
+mul_next_2 : tie.Need-offset_bounds-next-count
 mul_next_2 c = omega arith
 
-element_write_next : tie.Need-element-write-next
+element_write_next : tie.Need-bounds-next-count
 element_write_next c = omega arith
 
-add_heads : tie.Need-overflow-add-heads
+add_heads : tie.Need-overflow_add-heads
 add_heads c = omega arith
 
-cast_heads : tie.Need-overflow-cast-heads
+cast_heads : tie.Need-overflow_cast-heads
 cast_heads c = omega arith
 
-mul_heads : tie.Need-overflow-mul-heads
+mul_heads : tie.Need-offset_bounds-heads-bucket-2
 mul_heads c =
     let t = c.before.before.before.before.before.before in
     let s = t.before.before in
     omega (arith, t.bucket.ensures, bucket_below s.args.file.now s.args.at)
 
-element_write_heads : tie.Need-element-write-heads
+element_write_heads : tie.Need-bounds-heads-bucket-2
 element_write_heads c =
     let t = c.before.before.before.before.before.before in
     let s = t.before.before in
     omega (arith, t.bucket.ensures, bucket_below s.args.file.now s.args.at)
 
-cast_places : tie.Need-overflow-cast-places
+cast_places : tie.Need-overflow_cast-places
 cast_places c = omega arith
 
-mul_places : tie.Need-overflow-mul-places
+mul_places : tie.Need-offset_bounds-places-count
 mul_places c = omega arith
 
-element_write_places : tie.Need-element-write-places
+element_write_places : tie.Need-bounds-places-count
 element_write_places c = omega arith
 
-add_t17 : tie.Need-overflow-add-t17
+add_t17 : tie.Need-overflow_add-result
 add_t17 c = omega arith
 
-returns_2 : tie.Need-returns-2
+returns_2 : tie.Need-returns
 returns_2 c =
     let t = c.before.before.before.before.before.before in
     let s = t.before.before in
     let a = s.args in
     let p = s.requires in
-    added_new a.file.now a.heads.now a.next.now a.places.now a.count a.at p.0 _ _ t.bucket.ensures c.before.before.wave-number.ensures c.before.if1.false (omega arith) p.1
+    added_new a.file.now a.heads.now a.next.now a.places.now a.count a.at p.0 _ _ t.bucket-bucket.ensures c.before.before.wave-number.ensures c.before.if1.false (omega arith) p.1
 
 pub add_wave_spec : {M : Type 1} → statement M
 add_wave_spec =

@@ -9,14 +9,14 @@ use Rattle.repack_wave_table.proofs.Table.{Stepped, chain_here, chain_step}
 use Rattle.repack_wave_table.proofs.find_wave.Statement.{statement}
 use Rattle.repack_wave_table.proofs.find_wave.Tie as tie
 
-abbrev invariant_loop : tie.invariant-loop
+abbrev invariant_loop : tie.invariant-loop-i
 invariant_loop file at first next places i₀ i = (i ≤ first) × (latest file places (bucket_at file at) i ≡ i) × (found file places at first ≡ found file places at i)
 
-abbrev decreases_loop : tie.decreases-loop
+abbrev decreases_loop : tie.decreases-loop-i
 decreases_loop file at first next places i₀ i = i
 
 -- the next wave of the chain
-stepped : (c : tie.After-i invariant_loop decreases_loop)
+stepped : (c : tie.After-i-1 invariant_loop decreases_loop)
     → Stepped c.before.before.before.before.before.before.before.args.file.now c.before.before.before.before.before.before.before.args.places.now
     c.before.before.before.before.before.before.before.args.at c.before.before.before.before.before.loop.i
     (get_or c.before.before.before.before.before.before.before.args.next.now (c.before.before.before.before.before.loop.i - 1) 0)
@@ -28,50 +28,50 @@ stepped c =
     let l = p.loop in
     chain_step a.file.now a.places.now a.next.now a.at a.first l.i s.requires.0 t.loop-test.true l.invariant.0 l.invariant.1 (sym c.before.before.same-wave.ensures ∙ c.before.if1.false)
 
-loop_holds : tie.Need-loop-init invariant_loop decreases_loop
+loop_holds : tie.Need-loop-i-init invariant_loop decreases_loop
 loop_holds c = (omega arith, c.before.requires.0.last, refl)
 
-sub_k : tie.Need-overflow-sub-k invariant_loop decreases_loop
+sub_k : tie.Need-overflow_sub-k invariant_loop decreases_loop
 sub_k c = omega arith
 
-mul_same_wave : tie.Need-overflow-mul-same-wave invariant_loop decreases_loop
+mul_same_wave : tie.Need-offset_bounds-places-k invariant_loop decreases_loop
 mul_same_wave c = omega arith
 
-element_copy_out_same_wave : tie.Need-element-copy-out-same-wave invariant_loop decreases_loop
+element_copy_out_same_wave : tie.Need-bounds-places-k invariant_loop decreases_loop
 element_copy_out_same_wave c = omega arith
 
-cast_same_wave : tie.Need-overflow-cast-same-wave invariant_loop decreases_loop
+cast_same_wave : tie.Need-overflow_cast-places invariant_loop decreases_loop
 cast_same_wave c = omega (arith, c.before.before.before.before.requires.0.inside (c.before.before.loop.i - 1) (omega arith))
 
-same_wave_requires : tie.Need-same-wave-requires invariant_loop decreases_loop
+same_wave_requires : tie.Need-same_wave-requires invariant_loop decreases_loop
 same_wave_requires c κs = (c.before.before.before.before.requires.0.inside (c.before.before.loop.i - 1) (omega arith), c.before.before.before.before.requires.1)
 
-returns : tie.Need-returns invariant_loop decreases_loop
+returns : tie.Need-returns-then-same_wave invariant_loop decreases_loop
 returns c =
     let a = c.before.before.before.before.before.before.args in
     let l = c.before.before.before.before.loop in
-    sym (l.invariant.2 ∙ chain_here a.file.now a.places.now a.at l.i c.before.before.before.loop-test.true (sym c.before.same-wave.ensures ∙ c.if1.true))
+    sym (l.invariant.2 ∙ chain_here a.file.now a.places.now a.at l.i c.before.before.before.loop-test.true (sym c.before.same_wave.ensures ∙ c.if-same_wave.true))
 
-mul_i : tie.Need-overflow-mul-i invariant_loop decreases_loop
+mul_i : tie.Need-offset_bounds-next-k invariant_loop decreases_loop
 mul_i c = omega arith
 
-element_copy_out_i : tie.Need-element-copy-out-i invariant_loop decreases_loop
+element_copy_out_i : tie.Need-bounds-next-k invariant_loop decreases_loop
 element_copy_out_i c = omega arith
 
-cast_i : tie.Need-overflow-cast-i invariant_loop decreases_loop
+cast_i : tie.Need-overflow_cast-i invariant_loop decreases_loop
 cast_i c = omega (arith, (stepped c).less)
 
-loop_less : tie.Need-loop-smaller invariant_loop decreases_loop
+loop_less : tie.Need-loop-i-smaller invariant_loop decreases_loop
 loop_less c = (stepped c).less
 
-loop_again : tie.Need-loop-preserved invariant_loop decreases_loop
+loop_again : tie.Need-loop-i-preserved invariant_loop decreases_loop
 loop_again c = (omega (arith, (stepped c).less), (stepped c).last, c.before.before.before.before.before.loop.invariant.2 ∙ (stepped c).same)
 
-returns_2 : tie.Need-returns-2 invariant_loop decreases_loop
+returns_2 : tie.Need-returns invariant_loop decreases_loop
 unfolding found
 returns_2 c =
-    let none : c.before.loop.i ≡ 0 = omega arith in
-    rw (c.before.loop.invariant.2, none)
+    let none : c.before.loop-i.i ≡ 0 = omega arith in
+    rw (c.before.loop-i.invariant.2, none)
 
 pub find_wave_spec : {M : Type 1} → statement M
 find_wave_spec =

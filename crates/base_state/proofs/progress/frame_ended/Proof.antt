@@ -4,7 +4,7 @@ use Rattle.base_state.proofs.progress.frame_ended.Statement.{statement}
 use Rattle.base_state.proofs.progress.frame_ended.Tie as tie
 
 returns : tie.Need-returns
-returns c = rw (c.progress-at.ensures, c.before.between-at.ensures)
+returns c = rw (c.progress_at.ensures, c.before.between_at-at.ensures)
 
 pub frame_ended_spec : {M : Type 1} → statement M
 frame_ended_spec = tie.close (tie.spec (search rules) (search rules) returns)

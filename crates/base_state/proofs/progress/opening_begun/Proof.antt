@@ -4,7 +4,7 @@ use Rattle.base_state.proofs.progress.opening_begun.Statement.{statement}
 use Rattle.base_state.proofs.progress.opening_begun.Tie as tie
 
 returns : tie.Need-returns
-returns c = rw (c.progress-at.ensures, c.before.opening-from.ensures)
+returns c = rw (c.progress_at.ensures, c.before.opening_from.ensures)
 
 pub opening_begun_spec : {M : Type 1} → statement M
 opening_begun_spec = tie.close (tie.spec (search rules) (search rules) returns)

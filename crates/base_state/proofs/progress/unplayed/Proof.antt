@@ -6,7 +6,7 @@ use Rattle.base_state.proofs.progress.unplayed.Tie as tie
 
 returns : tie.Need-returns
 unfolding unplayed
-returns c = rw (c.progress-at.ensures, c.before.between-at.ensures)
+returns c = rw (c.progress_at.ensures, c.before.between_at.ensures)
 
 pub unplayed_spec : {M : Type 1} → statement M
 unplayed_spec = tie.close (tie.spec (search rules) (search rules) returns)
