@@ -179,6 +179,11 @@ def main():
         return ''.join(out)
 
     changed = {}
+    # A field that port.py turned in its record alone, and says so.
+    for p, t in texts.items():
+        texts[p] = re.sub(r'(?<=[.; ])total-size(?=[^\w-])', 'total_size', t)
+        if texts[p] != t:
+            changed[p] = texts[p]
     for p, t in texts.items():
         names = {n for n in own[module_of(p)] if turns(n)}
         fields = {n for n in members[module_of(p)] if plain(n) != n}
@@ -206,7 +211,7 @@ def main():
         heads = {m.group(1).rsplit('.', 1)[-1] for m in USE.finditer(t) if m.group(2) is None and m.group(1) in own}
         for head in heads:
             new = re.sub(rf'(?<![^\s(){{}};,@«»]){head}\.({NAME})', lambda m: f'{head}.{snake(m[1])}' if turns(m[1]) and m[1] in everywhere else m[0], new)
-        if new != t:
+        if new != t or p in changed:
             changed[p] = new
     for p, t in sources.items():
         names = set()

@@ -76,7 +76,7 @@ from_parts file h given-stream bytes says acc parts =
         opening_fits = parts.opening_fits;
         some_frame = omega (arith, parts.frames_said, acc.some_frame);
         frames_fit = parts.frames_fit;
-        total-size = omega (arith, ap length back, acc.small, acc.size);
+        total_size = omega (arith, ap length back, acc.small, acc.size);
       },
       back,
     )

@@ -248,7 +248,7 @@ header_fit s within small =
 pub round_trip : (s : Stream) → Limits s → read (written s) ≡ ok s
 round_trip s within =
     let laid = laid_written s within in
-    let size : end_place s ≤ 0xE00000 = omega (arith, laid.total, within.total-size) in
+    let size : end_place s ≤ 0xE00000 = omega (arith, laid.total, within.total_size) in
     let here : drop (0 + 0) (written s) ≡ bytes_of_all (header_fields (header_in s)) ++ body_bytes s = unfold written in refl in
-    read_body (written s) s within laid within.total-size
+    read_body (written s) s within laid within.total_size
     (header_read (written s) s within (holds (written s) 0 0 (header_fields (header_in s)) (body_bytes s) here (header_fit s within size)) (omega (arith, laid.total)))

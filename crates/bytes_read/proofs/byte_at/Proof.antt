@@ -5,7 +5,7 @@ use Rattle.bytes_read.proofs.byte_at.Statement.{statement}
 use Rattle.bytes_read.proofs.byte_at.Tie as tie
 
 returns_2 : tie.Need-returns-else-place-file
-returns_2 c = byte_past c.before.args.file.now _ c.if-place-file.false
+returns_2 c = byte_past c.args.file.now _ c.if-place-file.false
 
 pub byte_at_spec : {M : Type 1} → statement M
 byte_at_spec = tie.close (tie.spec (search rules) (search rules) returns_2)

@@ -20,19 +20,19 @@ loop_holds c = search rules
 
 joined_requires : tie.Need-joined-value-requires invariant_loop decreases_loop
 joined_requires c κs =
-    let l = c.before.before in
-    let s = l.before.before.args in
-    omega (arith, be_within 3 {width = l.loop-i.i} s.file.now s.at (λ i. (l.before.shared_slice_known-1.given i).fits) (omega arith))
+    let l = c in
+    let s = l.args in
+    omega (arith, be_within 3 {width = l.loop-i.i} s.file.now s.at (λ i. (l.shared_slice_known-1.given i).fits) (omega arith))
 
 loop_again : tie.Need-loop-i-preserved invariant_loop decreases_loop
 loop_again c =
-    let l = c.before.before.before in
-    let s = l.before.before.args in
+    let l = c in
+    let s = l.args in
     omega (arith, be_next l.loop-i.i s.file.now s.at)
 
 returns : tie.Need-returns invariant_loop decreases_loop
 returns c =
-    let whole : c.before.loop-i.i ≡ c.before.before.before.args.width = omega arith in
+    let whole : c.loop-i.i ≡ c.args.width = omega arith in
     cc
 
 pub read_be_spec : {M : Type 1} → statement M

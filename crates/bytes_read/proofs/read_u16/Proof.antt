@@ -6,10 +6,10 @@ use Rattle.bytes_read.proofs.read_u16.Statement.{statement}
 use Rattle.bytes_read.proofs.read_u16.Tie as tie
 
 returns : tie.Need-returns-then-file-at
-returns c = let a = c.before.before.args in be_past 2 a.file.now a.at (omega arith)
+returns c = let a = c.args in be_past 2 a.file.now a.at (omega arith)
 
 cast_result : tie.Need-overflow_cast-result
-cast_result c = let s = c.before.before.before in let a = s.before.args in omega (arith, be_below 2 a.file.now a.at (λ i. (s.shared_slice_known-1.given i).fits))
+cast_result c = let s = c in let a = s.args in omega (arith, be_below 2 a.file.now a.at (λ i. (s.shared_slice_known-1.given i).fits))
 
 pub read_u16_spec : {M : Type 1} → statement M
 read_u16_spec = tie.close (tie.spec returns (search rules) (search rules) cast_result (search rules) (search rules) (search rules) (search rules))

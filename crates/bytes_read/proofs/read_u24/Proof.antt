@@ -6,7 +6,7 @@ use Rattle.bytes_read.proofs.read_u24.Statement.{statement}
 use Rattle.bytes_read.proofs.read_u24.Tie as tie
 
 returns : tie.Need-returns-then-file-at
-returns c = let a = c.before.before.args in be_past 3 a.file.now a.at (omega arith)
+returns c = let a = c.args in be_past 3 a.file.now a.at (omega arith)
 
 pub read_u24_spec : {M : Type 1} → statement M
 read_u24_spec = tie.close (tie.spec returns (search rules) (search rules) (search rules) (search rules) (search rules))

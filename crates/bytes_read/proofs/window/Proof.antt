@@ -8,7 +8,7 @@ use Rattle.bytes_read.proofs.window.Tie as tie
 
 returns : tie.Need-returns
 returns c =
-    let at = c.before.args.at in
+    let at = c.args.at in
     let size : at + 16 - at ≡ 16 = omega arith in
     rw size
 

@@ -20,29 +20,29 @@ decreases_loop slot table count i₀ i = count - i
 
 loop_holds : tie.Need-loop-i-init invariant_loop decreases_loop
 loop_holds c =
-    let s = c.before in
-    (omega arith, omega (arith, c.held-count.ensures), rw (c.held-count.ensures, held_cards s.args.t1 (eight s.args.t1 _ s.well_formed.0)))
+    let s = c in
+    (omega arith, omega (arith, c.held-count.ensures), rw (c.held-count.ensures, held_cards s.args.table (eight s.args.table _ s.well_formed.0)))
 
 returns : tie.Need-returns-then-card-slot invariant_loop decreases_loop
 returns c =
-    let l = c.before.before.before.before in
-    let s = l.before.before in
-    let t = s.args.t1 in
-    rw (l.loop-i.invariant.2, slot_step t.cards l.before.held-count.result l.loop-i.i s.args.slot (omega arith) (omega (arith, eight t _ s.well_formed.0)), eq-eqb _ _ c.if-card-slot.true)
+    let l = c in
+    let s = l in
+    let t = s.args.table in
+    rw (l.loop-i.invariant.2, slot_step t.cards l.held-count.result l.loop-i.i s.args.slot (omega arith) (omega (arith, eight t _ s.well_formed.0)), eq-eqb _ _ c.if-card-slot.true)
 
 loop_again : tie.Need-loop-i-preserved invariant_loop decreases_loop
 loop_again c =
-    let l = c.before.before.before.before in
-    let s = l.before.before in
-    let t = s.args.t1 in
-    (omega arith, omega arith, rw (l.loop-i.invariant.2, slot_step t.cards l.before.held-count.result l.loop-i.i s.args.slot (omega arith) (omega (arith, eight t _ s.well_formed.0)), ne_eqb _ _ c.if-card-slot.false))
+    let l = c in
+    let s = l in
+    let t = s.args.table in
+    (omega arith, omega arith, rw (l.loop-i.invariant.2, slot_step t.cards l.held-count.result l.loop-i.i s.args.slot (omega arith) (omega (arith, eight t _ s.well_formed.0)), ne_eqb _ _ c.if-card-slot.false))
 
 returns_2 : tie.Need-returns invariant_loop decreases_loop
 returns_2 c =
-    let l = c.before in
-    let t = l.before.before.args.t1 in
-    let whole : l.loop-i.i ≡ l.before.held-count.result = omega arith in
-    rw (l.loop-i.invariant.2, whole, slot_end t.cards l.before.held-count.result)
+    let l = c in
+    let t = l.args.table in
+    let whole : l.loop-i.i ≡ l.held-count.result = omega arith in
+    rw (l.loop-i.invariant.2, whole, slot_end t.cards l.held-count.result)
 
 pub find_slot_spec : {M : Type 1} → statement M
 find_slot_spec = tie.close (tie.spec invariant_loop decreases_loop (search rules) loop_holds (search rules) (search rules) returns (search rules) (search rules) loop_again returns_2)

@@ -10,4 +10,4 @@ unfolding target_of
 find_target_spec =
     tie.close
     (tie.spec (λ c. search decided) (λ c. search decided) (λ c. search decided) (λ c. search decided) (search rules) (search rules)
-    (λ c. search (decided, c.before.slot.ensures, c.find_slot.ensures)) (λ c. search decided) (λ c. search decided) (λ c. search decided))
+    (λ c. search (decided, c.slot.ensures, c.find_slot.ensures)) (λ c. search decided) (λ c. search decided) (λ c. search decided))

@@ -7,25 +7,25 @@ use Rattle.repack_wave_table.proofs.add_wave.Statement.{statement}
 use Rattle.repack_wave_table.proofs.add_wave.Tie as tie
 
 wave_number_requires : tie.Need-wave_number-number-requires
-wave_number_requires c κs = (c.before.before.before.before.before.requires.0, c.before.before.before.bucket.ensures, c.before.before.before.before.before.requires.1)
+wave_number_requires c κs = (c.requires.0, c.bucket-bucket.ensures, c.requires.1)
 
 returns : tie.Need-returns-then-number-count
 returns c =
-    let s = c.before.before.before.before.before.before.before in
+    let s = c in
     let a = s.args in
-    added_known a.file.now a.heads.now a.next.now a.places.now a.count a.at s.requires.0 _ c.before.wave_number-number.ensures c.if-number-count.true
+    added_known a.file.now a.heads.now a.next.now a.places.now a.count a.at s.requires.0 _ c.wave_number-number.ensures c.if-number-count.true
 
 mul_next : tie.Need-offset_bounds-heads-bucket
 mul_next c =
-    let t = c.before.before.before.before.before in
-    let s = t.before.before in
-    omega (arith, t.bucket.ensures, bucket_below s.args.file.now s.args.at)
+    let t = c in
+    let s = t in
+    omega (arith, t.bucket-bucket.ensures, bucket_below s.args.file.now s.args.at)
 
 element_copy_out_next : tie.Need-bounds-heads-bucket
 element_copy_out_next c =
-    let t = c.before.before.before.before.before in
-    let s = t.before.before in
-    omega (arith, t.bucket.ensures, bucket_below s.args.file.now s.args.at)
+    let t = c in
+    let s = t in
+    omega (arith, t.bucket-bucket.ensures, bucket_below s.args.file.now s.args.at)
 
 mul_next_2 : tie.Need-offset_bounds-next-count
 mul_next_2 c = omega arith
@@ -41,15 +41,15 @@ cast_heads c = omega arith
 
 mul_heads : tie.Need-offset_bounds-heads-bucket-2
 mul_heads c =
-    let t = c.before.before.before.before.before.before in
-    let s = t.before.before in
-    omega (arith, t.bucket.ensures, bucket_below s.args.file.now s.args.at)
+    let t = c in
+    let s = t in
+    omega (arith, t.bucket-bucket.ensures, bucket_below s.args.file.now s.args.at)
 
 element_write_heads : tie.Need-bounds-heads-bucket-2
 element_write_heads c =
-    let t = c.before.before.before.before.before.before in
-    let s = t.before.before in
-    omega (arith, t.bucket.ensures, bucket_below s.args.file.now s.args.at)
+    let t = c in
+    let s = t in
+    omega (arith, t.bucket-bucket.ensures, bucket_below s.args.file.now s.args.at)
 
 cast_places : tie.Need-overflow_cast-places
 cast_places c = omega arith
@@ -65,11 +65,11 @@ add_t17 c = omega arith
 
 returns_2 : tie.Need-returns
 returns_2 c =
-    let t = c.before.before.before.before.before.before in
-    let s = t.before.before in
+    let t = c in
+    let s = t in
     let a = s.args in
     let p = s.requires in
-    added_new a.file.now a.heads.now a.next.now a.places.now a.count a.at p.0 _ _ t.bucket-bucket.ensures c.before.before.wave-number.ensures c.before.if1.false (omega arith) p.1
+    added_new a.file.now a.heads.now a.next.now a.places.now a.count a.at p.0 _ _ t.bucket-bucket.ensures c.wave_number-number.ensures c.if-number-count.false (omega arith) p.1
 
 pub add_wave_spec : {M : Type 1} → statement M
 add_wave_spec =

@@ -21,15 +21,15 @@ stepped : (c : tie.After-i-1 invariant_loop decreases_loop)
     c.before.before.before.before.before.before.before.args.at c.before.before.before.before.before.loop.i
     (get_or c.before.before.before.before.before.before.before.args.next.now (c.before.before.before.before.before.loop.i - 1) 0)
 stepped c =
-    let t = c.before.before.before.before in
-    let p = t.before in
-    let s = p.before.before in
+    let t = c in
+    let p = t in
+    let s = p in
     let a = s.args in
-    let l = p.loop in
-    chain_step a.file.now a.places.now a.next.now a.at a.first l.i s.requires.0 t.loop-test.true l.invariant.0 l.invariant.1 (sym c.before.before.same-wave.ensures ∙ c.before.if1.false)
+    let l = p.loop-i in
+    chain_step a.file.now a.places.now a.next.now a.at a.first l.i s.requires.0 t.loop-i-test.true l.invariant.0 l.invariant.1 (sym c.same_wave.ensures ∙ c.if-same_wave.false)
 
 loop_holds : tie.Need-loop-i-init invariant_loop decreases_loop
-loop_holds c = (omega arith, c.before.requires.0.last, refl)
+loop_holds c = (omega arith, c.requires.0.last, refl)
 
 sub_k : tie.Need-overflow_sub-k invariant_loop decreases_loop
 sub_k c = omega arith
@@ -41,16 +41,16 @@ element_copy_out_same_wave : tie.Need-bounds-places-k invariant_loop decreases_l
 element_copy_out_same_wave c = omega arith
 
 cast_same_wave : tie.Need-overflow_cast-places invariant_loop decreases_loop
-cast_same_wave c = omega (arith, c.before.before.before.before.requires.0.inside (c.before.before.loop.i - 1) (omega arith))
+cast_same_wave c = omega (arith, c.requires.0.inside (c.loop-i.i - 1) (omega arith))
 
 same_wave_requires : tie.Need-same_wave-requires invariant_loop decreases_loop
-same_wave_requires c κs = (c.before.before.before.before.requires.0.inside (c.before.before.loop.i - 1) (omega arith), c.before.before.before.before.requires.1)
+same_wave_requires c κs = (c.requires.0.inside (c.loop-i.i - 1) (omega arith), c.requires.1)
 
 returns : tie.Need-returns-then-same_wave invariant_loop decreases_loop
 returns c =
-    let a = c.before.before.before.before.before.before.args in
-    let l = c.before.before.before.before.loop in
-    sym (l.invariant.2 ∙ chain_here a.file.now a.places.now a.at l.i c.before.before.before.loop-test.true (sym c.before.same_wave.ensures ∙ c.if-same_wave.true))
+    let a = c.args in
+    let l = c.loop-i in
+    sym (l.invariant.2 ∙ chain_here a.file.now a.places.now a.at l.i c.loop-i-test.true (sym c.same_wave.ensures ∙ c.if-same_wave.true))
 
 mul_i : tie.Need-offset_bounds-next-k invariant_loop decreases_loop
 mul_i c = omega arith
@@ -65,13 +65,13 @@ loop_less : tie.Need-loop-i-smaller invariant_loop decreases_loop
 loop_less c = (stepped c).less
 
 loop_again : tie.Need-loop-i-preserved invariant_loop decreases_loop
-loop_again c = (omega (arith, (stepped c).less), (stepped c).last, c.before.before.before.before.before.loop.invariant.2 ∙ (stepped c).same)
+loop_again c = (omega (arith, (stepped c).less), (stepped c).last, c.loop-i.invariant.2 ∙ (stepped c).same)
 
 returns_2 : tie.Need-returns invariant_loop decreases_loop
 unfolding found
 returns_2 c =
-    let none : c.before.loop-i.i ≡ 0 = omega arith in
-    rw (c.before.loop-i.invariant.2, none)
+    let none : c.loop-i.i ≡ 0 = omega arith in
+    rw (c.loop-i.invariant.2, none)
 
 pub find_wave_spec : {M : Type 1} → statement M
 find_wave_spec =

@@ -5,4 +5,4 @@ use Rattle.play_jump_recorded.proofs.card.same_id.Statement.{statement}
 use Rattle.play_jump_recorded.proofs.card.same_id.Tie as tie
 
 pub same_id_spec : {M : Type 1} → statement M
-same_id_spec = tie.close (tie.spec (λ c. omega (arith, c.before.well_formed)) (λ c. omega (arith, c.before.before.well_formed)) (search rules) (λ c. search rules))
+same_id_spec = tie.close (tie.spec (λ c. omega (arith, c.well_formed)) (λ c. omega (arith, c.well_formed)) (search rules) (λ c. search rules))
