@@ -9,7 +9,7 @@ use Rattle.base_format.specs.Bytes.{Field, u8, u, raw, field_bytes, bytes_of, by
 use Rattle.base_format.proofs.Bytes.{length_bytes_of}
 use Rattle.base_format.proofs.Fields.{fields_size, fields_size_lem}
 use Rattle.bytes_read.specs.Put.{put}
-use Rattle.bytes_read.proofs.Laws.{length-put}
+use Rattle.bytes_read.proofs.Laws.{length_put}
 use Rattle.bytes_read.proofs.Sequence.{put_next, put_none}
 use Rattle.bytes_put_fields.specs.Fields.{put_more, put_fields, Narrow}
 
@@ -31,7 +31,7 @@ field_next : (bytes : List ℕ) (size at offset : ℕ) (fields : List Field) (bu
     → put_more at (offset + size) fields (put bytes (at + offset) buffer) ≡ put (bytes ++ bytes_of_all fields) (at + offset) buffer
 field_next bytes size at offset fields buffer e h more =
     let room : at + offset + length (bytes ++ bytes_of_all fields) ≤ length buffer = simp (length-append, fields_size_lem) (omega arith) in
-    more (put bytes (at + offset) buffer) (length-put bytes (at + offset) buffer)
+    more (put bytes (at + offset) buffer) (length_put bytes (at + offset) buffer)
     ∙ rw (← (add_assoc at offset size)) (sym (put_next bytes (bytes_of_all fields) (at + offset) size buffer e room))
 
 put_more_lem : (at offset : ℕ) (fields : List Field) (buffer : List ℕ) → at + (offset + fields_size fields) ≤ length buffer → Narrow fields

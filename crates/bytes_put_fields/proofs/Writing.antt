@@ -5,7 +5,7 @@ use mathlib.Core.List.{List, [], ◌++◌}
 use native.Mathlib.Omega.{arith}
 use lib.ListN.{length, length-append}
 use Rattle.bytes_read.specs.Put.{put}
-use Rattle.bytes_read.proofs.Laws.{length-put}
+use Rattle.bytes_read.proofs.Laws.{length_put}
 use Rattle.bytes_read.proofs.Sequence.{put_next, put_none}
 
 -- `whole` goes to `at` of the memory `before`; `rest` of it is still to go to `place` of the memory `now`
@@ -25,7 +25,7 @@ module _ {whole : List ℕ} {at : ℕ} {before rest : List ℕ} {place : ℕ} {n
       → Writing whole at before rest' place' now'
   wrote bytes rest' size {place'} {now'} is e there puts =
       let long : length rest ≡ length bytes + length rest' = ap length is ∙ length-append bytes rest' in
-      let kept : length now' ≡ length now = ap length puts ∙ length-put bytes place now in
+      let kept : length now' ≡ length now = ap length puts ∙ length_put bytes place now in
       record {
         same =
             w.same

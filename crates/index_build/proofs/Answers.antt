@@ -14,7 +14,7 @@ use Rattle.base_format.specs.Index.{entries_for, index_of, index_into}
 use Rattle.base_format.specs.Lent.{lent_after}
 use Rattle.base_format.specs.Stream.{Stream, read}
 use Rattle.bytes_read.specs.Put.{put}
-use Rattle.bytes_read.proofs.Laws.{put-fits}
+use Rattle.bytes_read.proofs.Laws.{put_fits}
 use Rattle.bytes_read.proofs.Sequence.{put_next}
 use Rattle.bytes_put_fields.proofs.Laid.{fields_append}
 use Rattle.index_laws.specs.Built.{entries_walk, built_trailer, built_fields}
@@ -60,7 +60,7 @@ module _ (header : Header) (file buffer : List ℕ) (entries : ℕ) (is : entrie
       ap (λ (n : ℕ). bytes_of_all (entries_walk header.version file n header.frame_start ++ built_trailer n header.total_size)) (sym is) ∙ fields_append walk end in
       let size = entries_long header.version file entries header.frame_start in
       let whole = put_next (bytes_of_all walk) (bytes_of_all end) 0 (entries * 4) buffer size (omega (arith, long, ap length parts)) in
-      let stands : put index 0 buffer ≡ index ++ drop (length index) buffer = put-fits index 0 buffer (omega (arith, long)) ∙ rw zero-add in
+      let stands : put index 0 buffer ≡ index ++ drop (length index) buffer = put_fits index 0 buffer (omega (arith, long)) ∙ rw zero-add in
       let written = second ∙ (λ i. put (bytes_of_all end) (sym (zero-add (entries * 4)) i) (first i)) ∙ sym whole ∙ ap (λ (l : List ℕ). put l 0 buffer) (sym parts) ∙ stands in
       same_into (ok (entries * 4 + 12)) buffer after (sym (the_index room)) (ap ok (sym long), written)
 

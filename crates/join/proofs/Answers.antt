@@ -12,7 +12,7 @@ use Rattle.base_format.specs.Lent.{stored}
 use Rattle.base_format.specs.Size.{file_limit}
 use Rattle.base_format.specs.Written.{written}
 use Rattle.bytes_read.specs.Put.{put}
-use Rattle.bytes_read.proofs.Laws.{put-fits}
+use Rattle.bytes_read.proofs.Laws.{put_fits}
 use Rattle.check_version.specs.Answer.{version_header}
 use Rattle.check_version.proofs.Answers.{Has, has, gone}
 use Rattle.join_stream.specs.Join.{NamedFile, inFirst, inSecond, inNeither, Joining, join_made, join_refused, join_into, first_count, joined, stream_in, size_made, stored_by}
@@ -136,6 +136,6 @@ module _ (file file' : List ℕ) (header header' : Header) (both : (version_head
           -- the result stands at the buffer's start
           pub writes : {after : List ℕ} → after ≡ put (written (joined (stream_in file) (stream_in file'))) 0 buffer → JoinedWith (join_made size) file file' buffer after
           writes puts =
-              let stands : put result 0 buffer ≡ stored result buffer = put-fits result 0 buffer (omega (arith, long, fits)) ∙ ap (λ (n : ℕ). result ++ drop n buffer) (zero-add (length result)) in
+              let stands : put result 0 buffer ≡ stored result buffer = put_fits result 0 buffer (omega (arith, long, fits)) ∙ ap (λ (n : ℕ). result ++ drop n buffer) (zero-add (length result)) in
               let is : size ≡ length result = omega (arith, long) in
               (ap join_made is ∙ ap size_made (sym made), puts ∙ stands ∙ ap (λ (x : Joining (List ℕ)). stored_by x buffer) (sym made))

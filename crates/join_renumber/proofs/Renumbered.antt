@@ -21,7 +21,7 @@ use Rattle.bytes_read.specs.Put.{put}
 use Rattle.index_laws.specs.Frames.{item_size, items_walked}
 use Rattle.index_laws.proofs.Frames.{goes_on_lem, operation_next, operations_next}
 use Rattle.index_laws.proofs.Places.{item_long, operations_long}
-use Rattle.bytes_read.proofs.Laws.{length-put}
+use Rattle.bytes_read.proofs.Laws.{length_put}
 use Rattle.bytes_read.proofs.Sequence.{put_append, put_next}
 use Rattle.bytes_put_fields.proofs.Changed.{put_changed}
 use Rattle.join_stream.specs.Join.{renumbered}
@@ -108,7 +108,7 @@ module _ (before shift : ℕ) (file : List ℕ) where
         let behind : length (others-old ++ rest) ≡ length others-old + length rest = length-append others-old rest in
         let room : place + length (old ++ (others-old ++ rest)) ≤ length buffer = subst (λ (l : List ℕ). place + length l ≤ length buffer) apart fits in
         let front = put new place buffer in
-        let kept = length-put new place buffer in
+        let kept = length_put new place buffer in
         let put-at : place + length new ≡ item.next + shift = omega arith in
         ap (λ (b : Bool). cond b (items_renumbered before shift file count (at + item_size 3 file at) (item_renumbered before shift file at copied)) copied) goes
         ∙ (λ i. items_renumbered before shift file count (there i) (item_renumbered before shift file at (put (apart i) place buffer)))
@@ -155,7 +155,7 @@ module _ (before shift : ℕ) (file : List ℕ) where
         let long' = length-append new others-old in
         let long'' = length-append new others-new in
         let front = put new place buffer in
-        let kept = length-put new place buffer in
+        let kept = length_put new place buffer in
         let put-at : place + length new ≡ frame.1 + shift = omega arith in
         let copied = put (old ++ others-old) place buffer in
         let done = items_renumbered before shift file (be 2 file at) (at + 2) copied in
@@ -185,7 +185,7 @@ module _ (before shift : ℕ) (file : List ℕ) where
         ∙ (λ i. operations_renumbered before frame.0 i + frames_renumbered_lem before others i)
         ∙ sym (length-append (operations_bytes 2 frame.0) (frames_bytes 2 others)) in
         let front = put number (at + shift) buffer in
-        let kept = length-put number (at + shift) buffer in
+        let kept = length_put number (at + shift) buffer in
         let long = length-append number old in
         let long' = length-append number new in
         let put-at : at + shift + 2 ≡ at + 2 + shift = omega arith in

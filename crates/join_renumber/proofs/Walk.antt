@@ -10,7 +10,7 @@ use lib.ListN.{length}
 use Rattle.base_format.specs.Bytes.{byte, be, bytes_of}
 use Rattle.base_format.specs.Size.{count_size}
 use Rattle.bytes_read.specs.Put.{put}
-use Rattle.bytes_read.proofs.Laws.{length-put}
+use Rattle.bytes_read.proofs.Laws.{length_put}
 use Rattle.index_laws.specs.Frames.{walk_limit, item_size, items_walked, EmptyFrames, EmptyPassed}
 use Rattle.index_laws.proofs.Empty.{first_empty, rest_empty}
 use Rattle.index_laws.proofs.Frames as Walked
@@ -36,7 +36,7 @@ module _ (before shift : ℕ) (file : List ℕ) where
   pub item_length : (at : ℕ) (buffer : List ℕ) → length (item_renumbered before shift file at buffer) ≡ length buffer
   unfolding item_renumbered
   item_length at buffer =
-      either (eqb (byte file at) 2) buffer (put (bytes_of 2 (before + be 2 file (at + 5))) (at + 5 + shift) buffer) (length-put (bytes_of 2 (before + be 2 file (at + 5))) (at + 5 + shift) buffer)
+      either (eqb (byte file at) 2) buffer (put (bytes_of 2 (before + be 2 file (at + 5))) (at + 5 + shift) buffer) (length_put (bytes_of 2 (before + be 2 file (at + 5))) (at + 5 + shift) buffer)
 
   pub items_length : (count at : ℕ) (buffer : List ℕ) → length (items_renumbered before shift file count at buffer) ≡ length buffer
   unfolding items_renumbered

@@ -17,7 +17,7 @@ use Rattle.base_format.specs.Written.{written}
 use Rattle.base_format.proofs.Accepted.{accepted}
 use Rattle.base_format.proofs.Checks.{ok_is, refused_not_ok}
 use Rattle.bytes_read.specs.Put.{put}
-use Rattle.bytes_read.proofs.Laws.{put-fits}
+use Rattle.bytes_read.proofs.Laws.{put_fits}
 use Rattle.base_master.specs.Places.{records_at, master_of}
 use Rattle.base_master.specs.Result.{pcm_from, pcm_bytes}
 use Rattle.repack_measure.specs.Measured.{Measured}
@@ -37,7 +37,7 @@ refuses file buffer number place answer e a =
 pub writes : (file buffer buffer' result : List ℕ) (size : ℕ) → repack_into file (length buffer) ≡ ok result → length result ≡ size → size ≤ length buffer → buffer' ≡ put result 0 buffer
     → Repacks file buffer buffer' (Written size)
 writes file buffer buffer' result size e long room puts =
-    let stands : put result 0 buffer ≡ result ++ drop (length result) buffer = put-fits result 0 buffer (omega arith) ∙ rw zero-add in
+    let stands : put result 0 buffer ≡ result ++ drop (length result) buffer = put_fits result 0 buffer (omega arith) ∙ rw zero-add in
     (ap ok (sym long) ∙ ap (mapped length) (sym e), puts ∙ stands ∙ ap (λ (x : Checked (List ℕ)). lent_after (λ (r : List ℕ). r) x buffer) (sym e))
 
 -- ---- the last stages

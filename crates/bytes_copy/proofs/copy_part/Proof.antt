@@ -8,7 +8,7 @@ use lib.ListN.{length, take, drop}
 use lib.Seq.{drop-drop}
 use Rattle.base_format.specs.Bytes.{part}
 use Rattle.base_format.proofs.Bytes.{part_length}
-use Rattle.bytes_read.proofs.Laws.{put-fits}
+use Rattle.bytes_read.proofs.Laws.{put_fits}
 use Rattle.bytes_copy.proofs.copy_part.Statement.{statement}
 use Rattle.bytes_copy.proofs.copy_part.Tie as tie
 
@@ -31,7 +31,7 @@ returns c =
     let long : length bytes ≡ a.size = part_length a.file.now a.from a.size s.requires.0 in
     let copied = c.before.before.copy-all.ensures in
     rw (copied, here, there, drop-drop a.size a.at buffer)
-    (sym (append_assoc (take a.at buffer) bytes (drop (a.at + a.size) buffer)) ∙ rw long at (sym (put-fits bytes a.at buffer (omega (arith, long, s.requires.1)))))
+    (sym (append_assoc (take a.at buffer) bytes (drop (a.at + a.size) buffer)) ∙ rw long at (sym (put_fits bytes a.at buffer (omega (arith, long, s.requires.1)))))
 
 pub copy_part_spec : {M : Type 1} → statement M
 copy_part_spec =

@@ -4,11 +4,11 @@ use Rattle.base_format.proofs.Decided.{decided}
 use Rattle.bytes_operation_size.proofs.address_width.Statement.{statement}
 use Rattle.bytes_operation_size.proofs.address_width.Tie as tie
 
-returns : tie.Need-returns
+returns : tie.Need-returns-then-version-le2
 unfolding address_width
 returns c = search decided
 
-returns_2 : tie.Need-returns-2
+returns_2 : tie.Need-returns
 unfolding address_width
 returns_2 c = search decided
 

@@ -14,14 +14,14 @@ counts_as width opcode known r low high e is =
     let most = size_most width known low high (omega arith) in
     (is ∙ ap (size_of width) (sym e), omega arith)
 
-returns : tie.Need-returns
-returns c = let s = c.before.before in counts_as _ _ 0 _ s.requires.0 s.requires.1 (omega arith) c.operation-size.ensures.0
+returns : tie.Need-returns-then-opcode-eq0
+returns c = let s = c in counts_as _ _ 0 _ s.requires.0 s.requires.1 (omega arith) c.operation_size.ensures.0
 
-returns_2 : tie.Need-returns-2
-returns_2 c = let s = c.before.before.before in counts_as _ _ 1 _ s.requires.0 s.requires.1 (omega arith) c.operation-size2.ensures.0
+returns_2 : tie.Need-returns-then-opcode-eq1
+returns_2 c = let s = c in counts_as _ _ 1 _ s.requires.0 s.requires.1 (omega arith) c.operation_size-then-opcode-eq1.ensures.0
 
-returns_3 : tie.Need-returns-3
-returns_3 c = let s = c.before.before.before in counts_as _ _ 2 _ s.requires.0 s.requires.1 (omega arith) c.operation-size3.ensures.0
+returns_3 : tie.Need-returns
+returns_3 c = let s = c in counts_as _ _ 2 _ s.requires.0 s.requires.1 (omega arith) c.operation_size-2.ensures.0
 
 pub item_size_spec : {M : Type 1} → statement M
 item_size_spec = tie.close (tie.spec (search rules) returns (search rules) returns_2 (search rules) returns_3)

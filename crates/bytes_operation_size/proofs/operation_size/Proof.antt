@@ -25,26 +25,26 @@ column width opcode size narrow wide low high o n w e =
         let four : width ≡ 4 = omega (arith, eqb-false width 3 t) in
         rw four (sym w)
 
-returns : tie.Need-returns
+returns : tie.Need-returns-then-opcode-eq0
 unfolding size_of
 returns c =
-    let t = c.before.before.before in
-    let a = t.before.args in
-    rw t.if1.true (column a.width 0 _ 6 7 (omega arith) (omega arith) (omega arith) refl refl c.by_width.ensures)
+    let t = c in
+    let a = t.args in
+    rw t.if-opcode-eq0.true (column a.width 0 _ 6 7 (omega arith) (omega arith) (omega arith) refl refl c.by_width.ensures)
 
-returns_2 : tie.Need-returns-2
+returns_2 : tie.Need-returns-then-opcode-eq1
 unfolding size_of
 returns_2 c =
-    let t = c.before.before.before in
-    let a = t.before.before.args in
-    rw t.if2.true (column a.width 1 _ 10 11 (omega arith) (omega arith) (omega arith) refl refl c.by-width2.ensures)
+    let t = c in
+    let a = t.args in
+    rw t.if-opcode-eq1.true (column a.width 1 _ 10 11 (omega arith) (omega arith) (omega arith) refl refl c.by_width-then-opcode-eq1.ensures)
 
-returns_3 : tie.Need-returns-3
+returns_3 : tie.Need-returns
 unfolding size_of
 returns_3 c =
-    let a = c.before.before.before.before.before.args in
+    let a = c.args in
     let copy : a.opcode ≡ 2 = omega arith in
-    rw copy (column a.width 2 _ 15 16 (omega arith) (omega arith) (omega arith) refl refl c.by-width3.ensures)
+    rw copy (column a.width 2 _ 15 16 (omega arith) (omega arith) (omega arith) refl refl c.by_width-2.ensures)
 
 pub operation_size_spec : {M : Type 1} → statement M
 operation_size_spec =

@@ -5,11 +5,11 @@ use mathlib.Core.Path.{◌≡◌}
 use Rattle.bytes_operation_size.proofs.read_address.Statement.{statement}
 use Rattle.bytes_operation_size.proofs.read_address.Tie as tie
 
-returns : tie.Need-returns
-returns c = rw c.before.if1.true c.read-u24.ensures
+returns : tie.Need-returns-then-width-eq3
+returns c = rw c.if-width-eq3.true c.read_u24.ensures
 
-returns_2 : tie.Need-returns-2
-returns_2 c = let four : c.before.before.before.args.width ≡ 4 = omega arith in rw four c.read_u32.ensures
+returns_2 : tie.Need-returns
+returns_2 c = let four : c.args.width ≡ 4 = omega arith in rw four c.read_u32.ensures
 
 pub read_address_spec : {M : Type 1} → statement M
 read_address_spec = tie.close (tie.spec (search rules) returns (search rules) returns_2)

@@ -7,4 +7,4 @@ use Rattle.check_header_fields.proofs.card_count.Tie as tie
 
 pub card_count_spec : {M : Type 1} → statement M
 unfolding card_count
-card_count_spec = tie.close (tie.spec (search rules) (λ c. simp (eq-eqb _ _ c.before.if1.true, ← c.byte_at.ensures)) (λ c. simp (ne_eqb _ _ c.if1.false)))
+card_count_spec = tie.close (tie.spec (search rules) (λ c. simp (eq-eqb _ _ c.if-version-eq4.true, ← c.byte_at.ensures)) (λ c. simp (ne_eqb _ _ c.if-version-eq4.false)))

@@ -9,5 +9,5 @@ pub header_of_spec : {M : Type 1} → statement M
 unfolding header_of
 header_of_spec =
     tie.close
-    (tie.spec (search rules) (search rules) (λ c. simp (← c.before.before.byte_at.ensures, eq-eqb _ _ c.before.if1.true, ← c.plain-header.ensures)) (search rules)
-    (λ c. simp (← c.before.before.byte_at.ensures, ne_eqb _ _ c.before.if1.false, ← c.pooled-header.ensures)))
+    (tie.spec (search rules) (search rules) (λ c. simp (← c.byte_at-version.ensures, eq-eqb _ _ c.if-version-eq1.true, ← c.plain_header.ensures)) (search rules)
+    (λ c. simp (← c.byte_at-version.ensures, ne_eqb _ _ c.if-version-eq1.false, ← c.pooled_header.ensures)))

@@ -7,4 +7,4 @@ use Rattle.check_header_fields.proofs.period_of.Tie as tie
 
 pub period_of_spec : {M : Type 1} → statement M
 unfolding period_of
-period_of_spec = tie.close (tie.spec (search rules) (λ c. simp (eq-eqb _ _ c.before.if1.true, ← c.read_u32.ensures)) (λ c. simp (ne_eqb _ _ c.if1.false)))
+period_of_spec = tie.close (tie.spec (search rules) (λ c. simp (eq-eqb _ _ c.if-version-eq4.true, ← c.read_u32.ensures)) (λ c. simp (ne_eqb _ _ c.if-version-eq4.false)))

@@ -6,7 +6,7 @@ use Rattle.check_header_fields.proofs.plain_header.Tie as tie
 
 returns : tie.Need-returns
 unfolding plain_header
-returns c = simp (← c.before.before.before.read_u32.ensures, ← c.before.before.byte_at.ensures, ← c.before.read-u322.ensures, ← c.read-u323.ensures)
+returns c = simp (← c.read_u32-records.ensures, ← c.byte_at.ensures, ← c.read_u32.ensures, ← c.read_u32-2.ensures)
 
 pub plain_header_spec : {M : Type 1} → statement M
 plain_header_spec = tie.close (tie.spec (search rules) (search rules) (search rules) (search rules) (search rules) (search rules) (search rules) (search rules) (search rules) returns)

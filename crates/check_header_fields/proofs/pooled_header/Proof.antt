@@ -8,16 +8,16 @@ returns : tie.Need-returns
 unfolding pooled_header
 returns c =
     simp (
-      ← c.before.before.before.before.before.before.before.before.before.byte_at.ensures,
-      ← c.before.before.before.before.before.before.before.before.period-of.ensures,
-      ← c.before.before.before.before.before.before.before.card-count.ensures,
-      ← c.before.before.before.before.before.before.read_u32.ensures,
-      ← c.before.before.before.before.before.read-u322.ensures,
-      ← c.before.before.before.before.read-u323.ensures,
-      ← c.before.before.before.read-u324.ensures,
-      ← c.before.before.read-u325.ensures,
-      ← c.before.read-u326.ensures,
-      ← c.read-u327.ensures,
+      ← c.byte_at.ensures,
+      ← c.period_of.ensures,
+      ← c.card_count.ensures,
+      ← c.read_u32.ensures,
+      ← c.read_u32-2.ensures,
+      ← c.read_u32-3.ensures,
+      ← c.read_u32-4.ensures,
+      ← c.read_u32-5.ensures,
+      ← c.read_u32-6.ensures,
+      ← c.read_u32-7.ensures,
     )
 
 pub pooled_header_spec : {M : Type 1} → statement M

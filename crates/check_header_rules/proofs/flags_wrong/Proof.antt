@@ -5,26 +5,26 @@ use Rattle.base_format.specs.Header.{flags_wrong}
 use Rattle.check_header_rules.proofs.flags_wrong.Statement.{statement}
 use Rattle.check_header_rules.proofs.flags_wrong.Tie as tie
 
-returns_2 : tie.Need-returns-2
+returns_2 : tie.Need-returns-then-byte_at-ne0
 unfolding flags_wrong
-returns_2 c = simp (← c.before.before.before.byte_at.ensures, le-ltb _ _ c.before.before.if1.false, ← c.before.byte-at2.ensures, ne_eqb _ _ c.if2.true)
+returns_2 c = simp (← c.byte_at.ensures, le-ltb _ _ c.if-byte_at-gt1.false, ← c.byte_at-2.ensures, ne_eqb _ _ c.if-byte_at-ne0.true)
 
-returns_3 : tie.Need-returns-3
+returns_3 : tie.Need-returns-then-version-eq1
 unfolding flags_wrong
-returns_3 c = simp (← c.before.before.before.before.byte_at.ensures, le-ltb _ _ c.before.before.before.if1.false, ← c.before.before.byte-at2.ensures, eq-eqb _ _ c.before.if2.false, eq-eqb _ _ c.if3.true)
+returns_3 c = simp (← c.byte_at.ensures, le-ltb _ _ c.if-byte_at-gt1.false, ← c.byte_at-2.ensures, eq-eqb _ _ c.if-byte_at-ne0.false, eq-eqb _ _ c.if-version-eq1.true)
 
-returns_4 : tie.Need-returns-4
+returns_4 : tie.Need-returns
 unfolding flags_wrong
 returns_4 c =
     simp (
-      ← c.before.before.before.before.before.byte_at.ensures,
-      le-ltb _ _ c.before.before.before.before.if1.false,
-      ← c.before.before.before.byte-at2.ensures,
-      eq-eqb _ _ c.before.before.if2.false,
-      ne_eqb _ _ c.before.if3.false,
-      ← c.reserved-wrong.ensures,
+      ← c.byte_at.ensures,
+      le-ltb _ _ c.if-byte_at-gt1.false,
+      ← c.byte_at-2.ensures,
+      eq-eqb _ _ c.if-byte_at-ne0.false,
+      ne_eqb _ _ c.if-version-eq1.false,
+      ← c.reserved_wrong.ensures,
     )
 
 pub flags_wrong_spec : {M : Type 1} → statement M
 unfolding flags_wrong
-flags_wrong_spec = tie.close (tie.spec (search rules) (λ c. simp (← c.before.byte_at.ensures, lt-ltb _ _ c.if1.true)) (search rules) returns_2 returns_3 (search rules) returns_4)
+flags_wrong_spec = tie.close (tie.spec (search rules) (λ c. simp (← c.byte_at.ensures, lt-ltb _ _ c.if-byte_at-gt1.true)) (search rules) returns_2 returns_3 (search rules) returns_4)

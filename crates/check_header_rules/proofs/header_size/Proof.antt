@@ -8,6 +8,6 @@ pub header_size_spec : {M : Type 1} → statement M
 unfolding header_size
 header_size_spec =
     tie.close
-    (tie.spec (λ c. simp (eq-eqb _ _ c.if1.true)) (λ c. simp (ne_eqb _ _ c.before.if1.false, eq-eqb _ _ c.if2.true))
-    (λ c. simp (ne_eqb _ _ c.before.before.if1.false, ne_eqb _ _ c.before.if2.false, eq-eqb _ _ c.if3.true))
-    (λ c. simp (ne_eqb _ _ c.before.before.if1.false, ne_eqb _ _ c.before.if2.false, ne_eqb _ _ c.if3.false)))
+    (tie.spec (λ c. simp (eq-eqb _ _ c.if-version-eq4.true)) (λ c. simp (ne_eqb _ _ c.if-version-eq4.false, eq-eqb _ _ c.if-version-eq2.true))
+    (λ c. simp (ne_eqb _ _ c.if-version-eq4.false, ne_eqb _ _ c.if-version-eq2.false, eq-eqb _ _ c.if-version-eq3.true))
+    (λ c. simp (ne_eqb _ _ c.if-version-eq4.false, ne_eqb _ _ c.if-version-eq2.false, ne_eqb _ _ c.if-version-eq3.false)))

@@ -8,5 +8,5 @@ pub period_wrong_spec : {M : Type 1} → statement M
 unfolding period_wrong
 period_wrong_spec =
     tie.close
-    (tie.spec (λ c. simp (eq-eqb _ _ c.if1.true)) (λ c. simp (ne_eqb _ _ c.before.if1.false, lt-ltb _ _ c.if2.true))
-    (λ c. simp (ne_eqb _ _ c.before.if1.false, le-ltb _ _ c.if2.false)))
+    (tie.spec (λ c. simp (eq-eqb _ _ c.if-period-eq0.true)) (λ c. simp (ne_eqb _ _ c.if-period-eq0.false, lt-ltb _ _ c.if-period-lt48000.true))
+    (λ c. simp (ne_eqb _ _ c.if-period-eq0.false, le-ltb _ _ c.if-period-lt48000.false)))

@@ -5,55 +5,55 @@ use Rattle.base_format.specs.Header.{reserved_wrong}
 use Rattle.check_header_rules.proofs.reserved_wrong.Statement.{statement}
 use Rattle.check_header_rules.proofs.reserved_wrong.Tie as tie
 
-returns_2 : tie.Need-returns-2
+returns_2 : tie.Need-returns-then-byte_at-ne0
 unfolding reserved_wrong
-returns_2 c = simp (← c.before.before.before.before.read-u16.ensures, ← c.before.before.before.header-size.ensures, eq-eqb _ _ c.before.before.if1.false, ← c.before.byte_at.ensures, ne_eqb _ _ c.if2.true)
+returns_2 c = simp (← c.read_u16.ensures, ← c.header_size.ensures, eq-eqb _ _ c.if-read_u16-header_size.false, ← c.byte_at.ensures, ne_eqb _ _ c.if-byte_at-ne0.true)
 
-returns_3 : tie.Need-returns-3
+returns_3 : tie.Need-returns-then-byte_at-gt8
 unfolding reserved_wrong
 returns_3 c =
     simp (
-      ← c.before.before.before.before.before.before.before.read-u16.ensures,
-      ← c.before.before.before.before.before.before.header-size.ensures,
-      eq-eqb _ _ c.before.before.before.before.before.if1.false,
-      ← c.before.before.before.before.byte_at.ensures,
-      eq-eqb _ _ c.before.before.before.if2.false,
-      eq-eqb _ _ c.before.before.if3.true,
-      ← c.before.byte-at2.ensures,
-      lt-ltb _ _ c.if4.true,
+      ← c.read_u16.ensures,
+      ← c.header_size.ensures,
+      eq-eqb _ _ c.if-read_u16-header_size.false,
+      ← c.byte_at.ensures,
+      eq-eqb _ _ c.if-byte_at-ne0.false,
+      eq-eqb _ _ c.if-version-eq4.true,
+      ← c.byte_at-then-version-eq4.ensures,
+      lt-ltb _ _ c.if-byte_at-gt8.true,
     )
 
-returns_4 : tie.Need-returns-4
+returns_4 : tie.Need-returns-then-version-eq4
 unfolding reserved_wrong
 returns_4 c =
     simp (
-      ← c.before.before.before.before.before.before.before.before.read-u16.ensures,
-      ← c.before.before.before.before.before.before.before.header-size.ensures,
-      eq-eqb _ _ c.before.before.before.before.before.before.if1.false,
-      ← c.before.before.before.before.before.byte_at.ensures,
-      eq-eqb _ _ c.before.before.before.before.if2.false,
-      eq-eqb _ _ c.before.before.before.if3.true,
-      ← c.before.before.byte-at2.ensures,
-      le-ltb _ _ c.before.if4.false,
+      ← c.read_u16.ensures,
+      ← c.header_size.ensures,
+      eq-eqb _ _ c.if-read_u16-header_size.false,
+      ← c.byte_at.ensures,
+      eq-eqb _ _ c.if-byte_at-ne0.false,
+      eq-eqb _ _ c.if-version-eq4.true,
+      ← c.byte_at-then-version-eq4.ensures,
+      le-ltb _ _ c.if-byte_at-gt8.false,
       ← c.read_u32.ensures,
     )
 
-returns_5 : tie.Need-returns-5
+returns_5 : tie.Need-returns
 unfolding reserved_wrong
 returns_5 c =
     simp (
-      ← c.before.before.before.before.before.before.read-u16.ensures,
-      ← c.before.before.before.before.before.header-size.ensures,
-      eq-eqb _ _ c.before.before.before.before.if1.false,
-      ← c.before.before.before.byte_at.ensures,
-      eq-eqb _ _ c.before.before.if2.false,
-      ne_eqb _ _ c.before.if3.false,
-      ← c.byte-at3.ensures,
+      ← c.read_u16.ensures,
+      ← c.header_size.ensures,
+      eq-eqb _ _ c.if-read_u16-header_size.false,
+      ← c.byte_at.ensures,
+      eq-eqb _ _ c.if-byte_at-ne0.false,
+      ne_eqb _ _ c.if-version-eq4.false,
+      ← c.byte_at-2.ensures,
     )
 
 pub reserved_wrong_spec : {M : Type 1} → statement M
 unfolding reserved_wrong
 reserved_wrong_spec =
     tie.close
-    (tie.spec (search rules) (search rules) (search rules) (λ c. simp (← c.before.before.read-u16.ensures, ← c.before.header-size.ensures, ne_eqb _ _ c.if1.true))
+    (tie.spec (search rules) (search rules) (search rules) (λ c. simp (← c.read_u16.ensures, ← c.header_size.ensures, ne_eqb _ _ c.if-read_u16-header_size.true))
     (search rules) returns_2 (search rules) returns_3 (search rules) returns_4 (search rules) returns_5)

@@ -9,7 +9,7 @@ use Rattle.base_format.specs.declared.header.Header.{Header}
 use Rattle.base_format.specs.Bytes.{AllBytes, bytes_of_all}
 use Rattle.base_format.specs.Written.{header_fields}
 use Rattle.bytes_read.specs.Put.{put}
-use Rattle.bytes_read.proofs.Laws.{length-put}
+use Rattle.bytes_read.proofs.Laws.{length_put}
 use Rattle.bytes_put_fields.proofs.Writing.{starts, wrote, ends}
 use Rattle.join_put_directory.specs.Entries.{entries_moved}
 use Rattle.join_put_directory.proofs.Entries.{entries_long}
@@ -64,7 +64,7 @@ put_entries_requires_2 c κs =
     let u = c.before.before.before in
     let v = u.before.before.before.before in
     let inside = offsets a.second.now a.second-header (λ i. (k.shared-slice-known2.given i).fits) n.has_second in
-    let kept = ap length u.put_entries.ensures ∙ length-put _ _ _ ∙ ap length v.put-header.ensures ∙ length-put _ _ _ in
+    let kept = ap length u.put_entries.ensures ∙ length_put _ _ _ ∙ ap length v.put-header.ensures ∙ length_put _ _ _ in
     record {
       ids = n.headers.pool_count;
       fits = second_fits a.header.pool_count a.second-header.pool_count (length a.buffer.now) (tables_room s.requires n) kept;

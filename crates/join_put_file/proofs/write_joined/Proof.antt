@@ -7,7 +7,7 @@ use Prim.Native.Nat.{ℕ, ◌+◌, ◌*◌, ◌-◌}
 use lib.ListN.{length, length-append}
 use Rattle.base_format.specs.Bytes.{AllBytes}
 use Rattle.base_format.specs.Written.{written}
-use Rattle.bytes_read.proofs.Laws.{length-put}
+use Rattle.bytes_read.proofs.Laws.{length_put}
 use Rattle.bytes_put_fields.proofs.Writing.{starts, wrote, ends}
 use Rattle.join_stream.specs.Join.{joined, stream_in}
 use Rattle.join_put_second.specs.Second.{second_bytes}
@@ -36,7 +36,7 @@ put_second_requires c κs =
     let k = v.before.before.before in
     let s = k.before.before in
     let n = known s.requires (λ i. (k.before.shared-slice-known.given i).fits) (λ i. (k.shared-slice-known2.given i).fits) in
-    let kept = ap length u.put-runs.ensures ∙ length-put _ _ _ ∙ ap length v.put-tables.ensures ∙ length-put _ _ _ in
+    let kept = ap length u.put-runs.ensures ∙ length_put _ _ _ ∙ ap length v.put-tables.ensures ∙ length_put _ _ _ in
     record { here = s.requires.here'; count = s.requires.first_count; few = omega (arith, s.requires.pool_count); near = omega (arith, n.small_first); fits = omega (arith, s.requires.fits, kept) }
 
 returns : tie.Need-returns

@@ -11,21 +11,16 @@ wave_number_requires c κs = (c.requires.0, c.bucket-bucket.ensures, c.requires.
 
 returns : tie.Need-returns-then-number-count
 returns c =
-    let s = c in
-    let a = s.args in
-    added_known a.file.now a.heads.now a.next.now a.places.now a.count a.at s.requires.0 _ c.wave_number-number.ensures c.if-number-count.true
+    let a = c.args in
+    added_known a.file.now a.heads.now a.next.now a.places.now a.count a.at c.requires.0 _ c.wave_number-number.ensures c.if-number-count.true
 
 mul_next : tie.Need-offset_bounds-heads-bucket
 mul_next c =
-    let t = c in
-    let s = t in
-    omega (arith, t.bucket-bucket.ensures, bucket_below s.args.file.now s.args.at)
+    omega (arith, c.bucket-bucket.ensures, bucket_below c.args.file.now c.args.at)
 
 element_copy_out_next : tie.Need-bounds-heads-bucket
 element_copy_out_next c =
-    let t = c in
-    let s = t in
-    omega (arith, t.bucket-bucket.ensures, bucket_below s.args.file.now s.args.at)
+    omega (arith, c.bucket-bucket.ensures, bucket_below c.args.file.now c.args.at)
 
 mul_next_2 : tie.Need-offset_bounds-next-count
 mul_next_2 c = omega arith
@@ -41,15 +36,11 @@ cast_heads c = omega arith
 
 mul_heads : tie.Need-offset_bounds-heads-bucket-2
 mul_heads c =
-    let t = c in
-    let s = t in
-    omega (arith, t.bucket-bucket.ensures, bucket_below s.args.file.now s.args.at)
+    omega (arith, c.bucket-bucket.ensures, bucket_below c.args.file.now c.args.at)
 
 element_write_heads : tie.Need-bounds-heads-bucket-2
 element_write_heads c =
-    let t = c in
-    let s = t in
-    omega (arith, t.bucket-bucket.ensures, bucket_below s.args.file.now s.args.at)
+    omega (arith, c.bucket-bucket.ensures, bucket_below c.args.file.now c.args.at)
 
 cast_places : tie.Need-overflow_cast-places
 cast_places c = omega arith
@@ -65,11 +56,9 @@ add_t17 c = omega arith
 
 returns_2 : tie.Need-returns
 returns_2 c =
-    let t = c in
-    let s = t in
-    let a = s.args in
-    let p = s.requires in
-    added_new a.file.now a.heads.now a.next.now a.places.now a.count a.at p.0 _ _ t.bucket-bucket.ensures c.wave_number-number.ensures c.if-number-count.false (omega arith) p.1
+    let a = c.args in
+    let p = c.requires in
+    added_new a.file.now a.heads.now a.next.now a.places.now a.count a.at p.0 _ _ c.bucket-bucket.ensures c.wave_number-number.ensures c.if-number-count.false (omega arith) p.1
 
 pub add_wave_spec : {M : Type 1} → statement M
 add_wave_spec =

@@ -17,16 +17,13 @@ decreases_loop file at first next places i₀ i = i
 
 -- the next wave of the chain
 stepped : (c : tie.After-i-1 invariant_loop decreases_loop)
-    → Stepped c.before.before.before.before.before.before.before.args.file.now c.before.before.before.before.before.before.before.args.places.now
-    c.before.before.before.before.before.before.before.args.at c.before.before.before.before.before.loop.i
-    (get_or c.before.before.before.before.before.before.before.args.next.now (c.before.before.before.before.before.loop.i - 1) 0)
+    → Stepped c.args.file.now c.args.places.now
+    c.args.at c.loop-i.i
+    (get_or c.args.next.now (c.loop-i.i - 1) 0)
 stepped c =
-    let t = c in
-    let p = t in
-    let s = p in
-    let a = s.args in
-    let l = p.loop-i in
-    chain_step a.file.now a.places.now a.next.now a.at a.first l.i s.requires.0 t.loop-i-test.true l.invariant.0 l.invariant.1 (sym c.same_wave.ensures ∙ c.if-same_wave.false)
+    let a = c.args in
+    let l = c.loop-i in
+    chain_step a.file.now a.places.now a.next.now a.at a.first l.i c.requires.0 c.loop-i-test.true l.invariant.0 l.invariant.1 (sym c.same_wave.ensures ∙ c.if-same_wave.false)
 
 loop_holds : tie.Need-loop-i-init invariant_loop decreases_loop
 loop_holds c = (omega arith, c.requires.0.last, refl)

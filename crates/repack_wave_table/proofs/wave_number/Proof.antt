@@ -19,9 +19,8 @@ cast_first c =
 
 find_wave_requires : tie.Need-find_wave-found-requires
 find_wave_requires c κs =
-    let s = c in
-    let a = s.args in
-    let p = s.requires in (
+    let a = c.args in
+    let p = c.requires in (
       chain_of a.file.now a.heads.now a.next.now a.places.now a.count a.at p.0 a.bucket p.1,
       p.2,
       omega (arith, p.0.few, head_few a.file.now a.heads.now a.next.now a.places.now a.count a.at p.0 a.bucket p.1),
@@ -29,9 +28,8 @@ find_wave_requires c κs =
 
 returns : tie.Need-returns-then-found-eq0
 returns c =
-    let s = c in
-    let a = s.args in
-    let p = s.requires in
+    let a = c.args in
+    let p = c.requires in
     place_missing a.file.now a.heads.now a.next.now a.places.now a.count a.at p.0
     (sym (c.find_wave-found.ensures ∙ chain_finds a.file.now a.heads.now a.next.now a.places.now a.count a.at p.0 a.bucket p.1) ∙ c.if-found-eq0.true)
 
@@ -40,9 +38,8 @@ sub_result c = omega arith
 
 returns_2 : tie.Need-returns
 returns_2 c =
-    let s = c in
-    let a = s.args in
-    let p = s.requires in
+    let a = c.args in
+    let p = c.requires in
     place_found a.file.now a.heads.now a.next.now a.places.now a.count a.at p.0 _
     (sym (c.find_wave-found.ensures ∙ chain_finds a.file.now a.heads.now a.next.now a.places.now a.count a.at p.0 a.bucket p.1) ∙ omega (arith, c.if-found-eq0.false))
 

@@ -8,4 +8,4 @@ pub decode_operation_spec : {M : Type 1} → statement M
 unfolding decoded_operation
 decode_operation_spec =
     tie.close
-    (tie.spec (search rules) (search rules) (search rules) (search rules) (search rules) (search rules) (search rules) (search rules) (λ c. (cc, c.size-by.ensures.1)))
+    (tie.spec (search rules) (search rules) (search rules) (search rules) (search rules) (search rules) (search rules) (search rules) (λ c. (cc, c.size_by.ensures.1)))

@@ -6,4 +6,4 @@ use Rattle.bytes_operation.proofs.number.address_in.Tie as tie
 
 pub address_in_spec : {M : Type 1} → statement M
 unfolding decoded_operation
-address_in_spec = tie.close (tie.spec (search rules) (λ c. c.read-address.ensures))
+address_in_spec = tie.close (tie.spec (search rules) (λ c. c.read_address.ensures))

@@ -6,4 +6,4 @@ use Rattle.bytes_operation.proofs.number.length_in.Tie as tie
 
 pub length_in_spec : {M : Type 1} → statement M
 unfolding decoded_operation
-length_in_spec = tie.close (tie.spec (search rules) (search rules) (λ c. rw (← c.before.opcode-in.ensures) c.length-by.ensures))
+length_in_spec = tie.close (tie.spec (search rules) (search rules) (λ c. rw (← c.opcode_in-opcode.ensures) c.length_by.ensures))

@@ -9,5 +9,5 @@ use Rattle.bytes_operation.proofs.number.pool_by.Tie as tie
 pub pool_by_spec : {M : Type 1} → statement M
 pool_by_spec =
     tie.close
-    (tie.spec (λ c. sym (no_copy c.before.before.args.opcode _ c.if1.true)) (search rules) (search rules)
-    (λ c. rw c.read-u16.ensures (sym (is_copy c.before.before.before.args.opcode 0 0 _ (omega (arith, c.before.if1.false))))))
+    (tie.spec (λ c. sym (no_copy c.args.opcode _ c.if-opcode-lt2.true)) (search rules) (search rules)
+    (λ c. rw c.read_u16.ensures (sym (is_copy c.args.opcode 0 0 _ (omega (arith, c.if-opcode-lt2.false))))))

@@ -6,4 +6,4 @@ use Rattle.bytes_operation.proofs.number.pool_in.Tie as tie
 
 pub pool_in_spec : {M : Type 1} → statement M
 unfolding decoded_operation
-pool_in_spec = tie.close (tie.spec (search rules) (search rules) (λ c. rw (← c.before.opcode-in.ensures) c.pool-by.ensures))
+pool_in_spec = tie.close (tie.spec (search rules) (search rules) (λ c. rw (← c.opcode_in-opcode.ensures) c.pool_by.ensures))

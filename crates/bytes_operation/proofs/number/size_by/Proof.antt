@@ -6,10 +6,10 @@ use Rattle.base_format.proofs.Sizes.{size_most}
 use Rattle.bytes_operation.proofs.number.size_by.Statement.{statement}
 use Rattle.bytes_operation.proofs.number.size_by.Tie as tie
 
-returns_2 : tie.Need-returns-2
+returns_2 : tie.Need-returns
 returns_2 c =
-    let a = c.before.before.args in
-    (rw (le-ltb _ _ c.before.if1.false) c.operation-size.ensures.0, omega (arith, c.operation-size.ensures.0, size_most a.width a.opcode (omega arith) (omega arith) (omega arith)))
+    let a = c.args in
+    (rw (le-ltb _ _ c.if-opcode-gt2.false) c.operation_size.ensures.0, omega (arith, c.operation_size.ensures.0, size_most a.width a.opcode (omega arith) (omega arith) (omega arith)))
 
 pub size_by_spec : {M : Type 1} → statement M
-size_by_spec = tie.close (tie.spec (λ c. (rw (lt-ltb _ _ c.if1.true), omega arith)) (search rules) returns_2)
+size_by_spec = tie.close (tie.spec (λ c. (rw (lt-ltb _ _ c.if-opcode-gt2.true), omega arith)) (search rules) returns_2)

@@ -6,4 +6,4 @@ use Rattle.bytes_operation.proofs.number.size_in.Tie as tie
 
 pub size_in_spec : {M : Type 1} → statement M
 unfolding decoded_operation
-size_in_spec = tie.close (tie.spec (search rules) (search rules) (λ c. rw (← c.before.opcode-in.ensures) c.size-by.ensures))
+size_in_spec = tie.close (tie.spec (search rules) (search rules) (λ c. rw (← c.opcode_in-opcode.ensures) c.size_by.ensures))

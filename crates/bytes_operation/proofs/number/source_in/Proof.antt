@@ -6,4 +6,4 @@ use Rattle.bytes_operation.proofs.number.source_in.Tie as tie
 
 pub source_in_spec : {M : Type 1} → statement M
 unfolding decoded_operation
-source_in_spec = tie.close (tie.spec (search rules) (search rules) (λ c. rw (← c.before.opcode-in.ensures) c.source-by.ensures))
+source_in_spec = tie.close (tie.spec (search rules) (search rules) (λ c. rw (← c.opcode_in-opcode.ensures) c.source_by.ensures))

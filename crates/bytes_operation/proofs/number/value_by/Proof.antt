@@ -8,14 +8,13 @@ use Rattle.bytes_operation.proofs.Choices.{is_copy, value_chosen}
 use Rattle.bytes_operation.proofs.number.value_by.Statement.{statement}
 use Rattle.bytes_operation.proofs.number.value_by.Tie as tie
 
-returns_2 : tie.Need-returns-2
+returns_2 : tie.Need-returns
 returns_2 c =
-    let p = c.before.before in
-    let a = p.before.before.args in
-    rw (c.before.byte_at.ensures, p.value-place.ensures)
-    (sym (value_chosen a.opcode (byte a.bytes.now) (2 + a.width) (6 + a.width) 0 (omega (arith, c.if1.false))))
+    let a = c.args in
+    rw (c.byte_at-value.ensures, c.value_place.ensures)
+    (sym (value_chosen a.opcode (byte a.bytes.now) (2 + a.width) (6 + a.width) 0 (omega (arith, c.if-opcode-gt1.false))))
 
 pub value_by_spec : {M : Type 1} → statement M
 value_by_spec =
     tie.close
-    (tie.spec (search rules) (search rules) (λ c. sym (is_copy c.before.before.before.before.args.opcode _ _ 0 (omega (arith, c.if1.true)))) returns_2)
+    (tie.spec (search rules) (search rules) (λ c. sym (is_copy c.args.opcode _ _ 0 (omega (arith, c.if-opcode-gt1.true)))) returns_2)

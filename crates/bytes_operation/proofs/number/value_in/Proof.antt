@@ -6,4 +6,4 @@ use Rattle.bytes_operation.proofs.number.value_in.Tie as tie
 
 pub value_in_spec : {M : Type 1} → statement M
 unfolding decoded_operation
-value_in_spec = tie.close (tie.spec (search rules) (search rules) (λ c. rw (← c.before.opcode-in.ensures) c.value-by.ensures))
+value_in_spec = tie.close (tie.spec (search rules) (search rules) (λ c. rw (← c.opcode_in-opcode.ensures) c.value_by.ensures))

@@ -20,51 +20,42 @@ decreases_loop a b total i₀ i = total - i
 
 returns : tie.Need-returns-then-total-card_total invariant_loop decreases_loop
 returns c =
-    let s = c in
-    let t = s.args in
-    sym (cards_differ t.a t.b (eight t.a _ s.well_formed.0) (eight t.b _ s.well_formed.1.0)
+    let t = c.args in
+    sym (cards_differ t.a t.b (eight t.a _ c.well_formed.0) (eight t.b _ c.well_formed.1.0)
     (λ e. c.if-total-card_total.true (c.card_total-total.ensures ∙ e ∙ sym c.card_total.ensures)))
 
 loop_holds : tie.Need-loop-i-init invariant_loop decreases_loop
 loop_holds c =
-    let s = c in
-    let t = s.args in
+    let t = c.args in
     let same = c.card_total-total.ensures in (
       omega arith,
       omega (arith, same),
-      cards_whole t.a t.b _ (eight t.a _ s.well_formed.0) (eight t.b _ s.well_formed.1.0) same (c.if-total-card_total.false ∙ c.card_total.ensures),
+      cards_whole t.a t.b _ (eight t.a _ c.well_formed.0) (eight t.b _ c.well_formed.1.0) same (c.if-total-card_total.false ∙ c.card_total.ensures),
     )
 
 returns_2 : tie.Need-returns-then-not-same_card invariant_loop decreases_loop
 returns_2 c =
-    let l = c in
-    let total = l in
-    let s = total in
-    let t = s.args in
-    let step = cards_step t.a t.b total.card_total-total.result l.loop-i.i (eight t.a _ s.well_formed.0) (eight t.b _ s.well_formed.1.0) (omega arith) l.loop-i.invariant.1 in
-    let none = sym c.same_card.ensures ∙ not-true _ c.if-not-same_card.true in
-    rw (l.loop-i.invariant.2, step, none)
+    let t = c.args in
+    let step = cards_step t.a t.b c.card_total-total.result c.loop-i.i (eight t.a _ c.well_formed.0) (eight t.b _ c.well_formed.1.0) (omega arith) c.loop-i.invariant.1 in
+    let none = sym c.same_card.ensures ∙ c.if-not-same_card.true in
+    rw (c.loop-i.invariant.2, step, none)
 
 loop_again : tie.Need-loop-i-preserved invariant_loop decreases_loop
 loop_again c =
-    let l = c in
-    let total = l in
-    let s = total in
-    let t = s.args in
-    let step = cards_step t.a t.b total.card_total-total.result l.loop-i.i (eight t.a _ s.well_formed.0) (eight t.b _ s.well_formed.1.0) (omega arith) l.loop-i.invariant.1 in
-    let one = sym c.same_card.ensures ∙ not-false _ c.if-not-same_card.false in (
+    let t = c.args in
+    let step = cards_step t.a t.b c.card_total-total.result c.loop-i.i (eight t.a _ c.well_formed.0) (eight t.b _ c.well_formed.1.0) (omega arith) c.loop-i.invariant.1 in
+    let one = sym c.same_card.ensures ∙ c.if-not-same_card.false in (
       omega arith,
-      l.loop-i.invariant.1,
-      rw (l.loop-i.invariant.2, step, one),
+      c.loop-i.invariant.1,
+      rw (c.loop-i.invariant.2, step, one),
     )
 
 returns_3 : tie.Need-returns invariant_loop decreases_loop
 returns_3 c =
-    let l = c in
-    let t = l.args in
-    let total = l.card_total-total.result in
-    let whole : l.loop-i.i ≡ total = omega arith in
-    rw (l.loop-i.invariant.2, whole, cards_end t.a.cards t.b.cards total)
+    let t = c.args in
+    let total = c.card_total-total.result in
+    let whole : c.loop-i.i ≡ total = omega arith in
+    rw (c.loop-i.invariant.2, whole, cards_end t.a.cards t.b.cards total)
 
 pub same_cards_spec : {M : Type 1} → statement M
 same_cards_spec =
