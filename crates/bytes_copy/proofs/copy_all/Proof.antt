@@ -11,27 +11,27 @@ use Prim.Native.Nat.{ℕ}
 use Rattle.bytes_copy.proofs.copy_all.Statement.{statement}
 use Rattle.bytes_copy.proofs.copy_all.Tie as tie
 
-abbrev invariant_loop : tie.invariant-loop
+abbrev invariant_loop : tie.invariant-loop-i
 invariant_loop from to₀ i₀ to i = (take i to ≡ take i from) × (length to ≡ length from) × (i ≤ length from)
 
-abbrev decreases_loop : tie.decreases-loop
+abbrev decreases_loop : tie.decreases-loop-i
 decreases_loop from to₀ i₀ to i = length from - i
 
-returns : tie.Need-returns invariant_loop decreases_loop
-returns c = absurd (c.if1.true c.before.requires)
+returns : tie.Need-returns-then-from-to invariant_loop decreases_loop
+returns c = absurd (c.if-from-to.true c.requires)
 
-loop_holds : tie.Need-loop-init invariant_loop decreases_loop
-loop_holds c = (refl, sym c.before.requires, omega arith)
+loop_holds : tie.Need-loop-i-init invariant_loop decreases_loop
+loop_holds c = (refl, sym c.requires, omega arith)
 
-slice_write_to : tie.Need-slice-write-to invariant_loop decreases_loop
-slice_write_to c = let l = c.before.before.loop in omega (arith, l.invariant.1, c.before.loop-test.true)
+slice_write_to : tie.Need-bounds-to-i invariant_loop decreases_loop
+slice_write_to c = let l = c.loop-i in omega (arith, l.invariant.1, c.loop-i-test.true)
 
-loop_again : tie.Need-loop-preserved invariant_loop decreases_loop
+loop_again : tie.Need-loop-i-preserved invariant_loop decreases_loop
 loop_again c =
-    let l = c.before.before.loop in
-    let from = c.before.before.before.before.args.from.now in
+    let l = c.loop-i in
+    let from = c.args.from.now in
     let value = get_or from l.i 0 in
-    let less = c.before.loop-test.true in (
+    let less = c.loop-i-test.true in (
       rw add-one (
           take-suc-set l.to l.i value (omega (arith, less, l.invariant.1))
           ∙ ap (λ (bytes : List ℕ). bytes ++ (value ∷ [])) l.invariant.0
@@ -41,11 +41,11 @@ loop_again c =
       omega (arith, less),
     )
 
-returns_2 : tie.Need-returns-2 invariant_loop decreases_loop
+returns_2 : tie.Need-returns invariant_loop decreases_loop
 returns_2 c =
-    let l = c.before.loop in
-    let from = c.before.before.before.args.from.now in
-    let all : length from ≤ l.i = omega (arith, c.loop-test.false) in
+    let l = c.loop-i in
+    let from = c.args.from.now in
+    let all : length from ≤ l.i = omega (arith, c.loop-i-test.false) in
     sym (take_all l.i l.to (omega (arith, l.invariant.1))) ∙ l.invariant.0 ∙ take_all l.i from all
 
 pub copy_all_spec : {M : Type 1} → statement M

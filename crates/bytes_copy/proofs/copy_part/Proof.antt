@@ -12,26 +12,24 @@ use Rattle.bytes_read.proofs.Laws.{put_fits}
 use Rattle.bytes_copy.proofs.copy_part.Statement.{statement}
 use Rattle.bytes_copy.proofs.copy_part.Tie as tie
 
-copy_all_requires : tie.Need-copy-all-requires
+copy_all_requires : tie.Need-copy_all-requires
 copy_all_requires c κs =
-    let s = c.before.before.before.before in
-    let a = s.args in
+    let a = c.args in
     let here : a.from + a.size - a.from ≡ a.size = omega arith in
     let there : a.at + a.size - a.at ≡ a.size = omega arith in
-    rw (here, there, part_length a.file.now a.from a.size s.requires.0) (sym (part_length a.buffer.now a.at a.size s.requires.1))
+    rw (here, there, part_length a.file.now a.from a.size c.requires.0) (sym (part_length a.buffer.now a.at a.size c.requires.1))
 
 returns : tie.Need-returns
 returns c =
-    let s = c.before.before.before.before.before.before.before in
-    let a = s.args in
+    let a = c.args in
     let buffer = a.buffer.now in
     let here : a.from + a.size - a.from ≡ a.size = omega arith in
     let there : a.at + a.size - a.at ≡ a.size = omega arith in
     let bytes = part a.file.now a.from a.size in
-    let long : length bytes ≡ a.size = part_length a.file.now a.from a.size s.requires.0 in
-    let copied = c.before.before.copy-all.ensures in
+    let long : length bytes ≡ a.size = part_length a.file.now a.from a.size c.requires.0 in
+    let copied = c.copy_all.ensures in
     rw (copied, here, there, drop-drop a.size a.at buffer)
-    (sym (append_assoc (take a.at buffer) bytes (drop (a.at + a.size) buffer)) ∙ rw long at (sym (put_fits bytes a.at buffer (omega (arith, long, s.requires.1)))))
+    (sym (append_assoc (take a.at buffer) bytes (drop (a.at + a.size) buffer)) ∙ rw long at (sym (put_fits bytes a.at buffer (omega (arith, long, c.requires.1)))))
 
 pub copy_part_spec : {M : Type 1} → statement M
 copy_part_spec =

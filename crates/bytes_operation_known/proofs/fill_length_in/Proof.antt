@@ -5,15 +5,14 @@ use Rattle.bytes_operation_known.specs.Known.{fill_length}
 use Rattle.bytes_operation_known.proofs.fill_length_in.Statement.{statement}
 use Rattle.bytes_operation_known.proofs.fill_length_in.Tie as tie
 
-returns : tie.Need-returns
+returns : tie.Need-returns-then-opcode-eq0
 unfolding fill_length
-returns c = rw (← c.before.before.opcode-in.ensures, eq-eqb _ _ c.if1.true)
+returns c = rw (← c.opcode_in-opcode.ensures, eq-eqb _ _ c.if-opcode-eq0.true)
 
-returns_2 : tie.Need-returns-2
+returns_2 : tie.Need-returns
 unfolding fill_length
 returns_2 c =
-    let r = c.before in
-    rw (← r.before.opcode-in.ensures, ne_eqb _ _ c.if1.false) r.read_u32.ensures
+    rw (← c.opcode_in-opcode.ensures, ne_eqb _ _ c.if-opcode-eq0.false) c.read_u32-length.ensures
 
 pub fill_length_in_spec : {M : Type 1} → statement M
 fill_length_in_spec = tie.close (tie.spec (search rules) (search rules) (search rules) returns returns_2)

@@ -8,19 +8,16 @@ use Rattle.bytes_operation_known.proofs.fill_size_in.Statement.{statement}
 use Rattle.bytes_operation_known.proofs.fill_size_in.Tie as tie
 
 -- what is added is the difference of the two sizes at most
-bound : (c : tie.After-extra) → c.extra.result ≤ c.before.before.operation-size2.result - c.before.before.before.operation-size.result
-bound c = rw c.extra.ensures (extra_most c.before.opcode-in.result _)
+bound : (c : tie.After-extra) → c.extra.result ≤ c.operation_size-fill.result - c.operation_size-write.result
+bound c = rw c.extra.ensures (extra_most c.opcode_in.result _)
 
-add_result : tie.Need-overflow-add-result
-add_result c = omega (arith, bound c, c.before.before.operation-size2.ensures.1, c.before.before.before.operation-size.ensures.1)
+add_result : tie.Need-overflow_add-result
+add_result c = omega (arith, bound c, c.operation_size-fill.ensures.1, c.operation_size-write.ensures.1)
 
 returns : tie.Need-returns
 unfolding fill_size
 returns c =
-    let o = c.before in
-    let f = o.before in
-    let w = f.before in
-    (rw (c.extra.ensures, f.operation-size2.ensures.0, w.operation-size.ensures.0, o.opcode-in.ensures), omega (arith, bound c, f.operation-size2.ensures.1, w.operation-size.ensures.1))
+    (rw (c.extra.ensures, c.operation_size-fill.ensures.0, c.operation_size-write.ensures.0, c.opcode_in.ensures), omega (arith, bound c, c.operation_size-fill.ensures.1, c.operation_size-write.ensures.1))
 
 pub fill_size_in_spec : {M : Type 1} → statement M
 fill_size_in_spec = tie.close (tie.spec (search rules) (search rules) (search rules) (search rules) (search rules) add_result returns)

@@ -8,13 +8,12 @@ use Rattle.bytes_operation_known.proofs.fill_value_in.Statement.{statement}
 use Rattle.bytes_operation_known.proofs.fill_value_in.Tie as tie
 
 bound : (c : tie.After-extra) → c.extra.result ≤ 4
-bound c = rw c.extra.ensures (extra_most c.before.opcode-in.result 4)
+bound c = rw c.extra.ensures (extra_most c.opcode_in-opcode.result 4)
 
 returns : tie.Need-returns
 unfolding fill_value
 returns c =
-    let extra = c.before in
-    rw (c.byte_at.ensures, extra.extra.ensures, extra.before.opcode-in.ensures)
+    rw (c.byte_at.ensures, c.extra.ensures, c.opcode_in-opcode.ensures)
 
 pub fill_value_in_spec : {M : Type 1} → statement M
-fill_value_in_spec = tie.close (tie.spec (search rules) (search rules) (search rules) (λ c. omega (arith, bound c, c.before.before.before.requires.1)) (search rules) returns)
+fill_value_in_spec = tie.close (tie.spec (search rules) (search rules) (search rules) (λ c. omega (arith, bound c, c.requires.1)) (search rules) returns)

@@ -8,7 +8,7 @@ use Rattle.bytes_put_header.proofs.put_period.Tie as tie
 
 returns : tie.Need-returns
 returns c =
-    let a = c.before.before.before.before.before.before.before.before.before.args in
+    let a = c.args in
     cc (put_fields_lem 40 (period_fields a.period) a.buffer.now (omega arith) (search rules))
 
 pub put_period_spec : {M : Type 1} → statement M

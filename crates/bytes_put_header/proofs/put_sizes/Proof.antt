@@ -8,7 +8,7 @@ use Rattle.bytes_put_header.proofs.put_sizes.Tie as tie
 
 returns : tie.Need-returns
 returns c =
-    let a = c.before.before.before.before.before.before.before.before.before.before.before.before.before.before.before.before.before.before.before.before.before.args in
+    let a = c.args in
     cc (put_fields_lem 28 (size_fields a.frames a.total a.size a.cards) a.buffer.now (omega arith) (search rules))
 
 pub put_sizes_spec : {M : Type 1} → statement M

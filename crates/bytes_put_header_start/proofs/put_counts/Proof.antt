@@ -8,7 +8,7 @@ use Rattle.bytes_put_header_start.proofs.put_counts.Tie as tie
 
 returns : tie.Need-returns
 returns c =
-    let a = c.before.before.before.before.before.before.before.before.before.before.before.before.before.before.before.before.before.args in
+    let a = c.args in
     cc (put_fields_lem 12 (count_fields a.pools a.operations a.directory a.opening) a.buffer.now (omega arith) (search rules))
 
 pub put_counts_spec : {M : Type 1} → statement M

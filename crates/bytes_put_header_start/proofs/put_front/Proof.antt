@@ -8,10 +8,8 @@ use Rattle.bytes_put_header_start.proofs.put_front.Tie as tie
 
 returns : tie.Need-returns
 returns c =
-    let t = c.before.before.before.before.before.before.before.before.before.before.before in
-    let s = t.before.before.before.before.before.before.before.before.before.before.before.before.before.before.before in
-    let a = s.args in
-    let flag = t.flag.ensures in
+    let a = c.args in
+    let flag = c.flag.ensures in
     cc (flag.0, put_fields_lem 0 (front_fields a.version a.repeat a.frames) a.buffer.now (omega arith) (omega arith, (omega arith, (rw flag.0 at flag.1, (omega arith, tt)))))
 
 pub put_front_spec : {M : Type 1} → statement M

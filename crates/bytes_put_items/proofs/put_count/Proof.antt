@@ -7,7 +7,7 @@ use Rattle.bytes_put_items.proofs.put_count.Tie as tie
 
 returns : tie.Need-returns
 unfolding bytes_of_all
-returns c = rw append-nil c.before.before.put-u16.ensures
+returns c = rw append-nil c.put_u16.ensures
 
 pub put_count_spec : {M : Type 1} → statement M
 put_count_spec = tie.close (tie.spec (search rules) (search rules) returns)

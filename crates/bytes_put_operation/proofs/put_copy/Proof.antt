@@ -7,9 +7,8 @@ use Rattle.bytes_put_operation.proofs.put_copy.Tie as tie
 
 returns : tie.Need-returns
 returns c =
-    let s = c.before.before.before.before.before.before.before.before.before.before.before.before.before.before.before.before.before in
-    let a = s.args in
-    cc (put_operation a.at a.width (Copy a.target a.address a.pool a.source a.size) a.buffer.now s.requires.0 s.requires.1 s.requires.2 (search rules))
+    let a = c.args in
+    cc (put_operation a.at a.width (Copy a.target a.address a.pool a.source a.size) a.buffer.now c.requires.0 c.requires.1 c.requires.2 (search rules))
 
 pub put_copy_spec : {M : Type 1} → statement M
 put_copy_spec =

@@ -7,9 +7,8 @@ use Rattle.bytes_put_operation.proofs.put_fill.Tie as tie
 
 returns : tie.Need-returns
 returns c =
-    let s = c.before.before.before.before.before.before.before.before.before.before.before.before.before in
-    let a = s.args in
-    cc (put_operation a.at a.width (Fill a.target a.address a.size a.value) a.buffer.now s.requires.0 s.requires.1 s.requires.2 (search rules))
+    let a = c.args in
+    cc (put_operation a.at a.width (Fill a.target a.address a.size a.value) a.buffer.now c.requires.0 c.requires.1 c.requires.2 (search rules))
 
 pub put_fill_spec : {M : Type 1} → statement M
 put_fill_spec = tie.close (tie.spec (search rules) (search rules) (search rules) (search rules) (search rules) (search rules) (search rules) (search rules) returns)

@@ -11,13 +11,11 @@ use Rattle.bytes_put_tables.proofs.put_card.Tie as tie
 
 returns : tie.Need-returns
 returns c =
-    let t = c.before.before.before.before.before.before in
-    let s = t.before.before.before.before in
-    let a = s.args in
-    let named = c.before.before.put_id.ensures in
+    let a = c.args in
+    let named = c.put_id.ensures in
     let numbers = bytes_of_all (numbers_of a.card) in
     let room = rw (card_parts a.card) at (card_size_lem a.card named.1) in
-    (rw (named.0, t.put-numbers.ensures, card_parts a.card) (sym (put_next numbers a.card.id a.at 16 a.buffer.now (fields_size_lem (numbers_of a.card)) (omega (arith, room)))), named.1)
+    (rw (named.0, c.put_numbers.ensures, card_parts a.card) (sym (put_next numbers a.card.id a.at 16 a.buffer.now (fields_size_lem (numbers_of a.card)) (omega (arith, room)))), named.1)
 
 pub put_card_spec : {M : Type 1} → statement M
 put_card_spec = tie.close (tie.spec (search rules) (search rules) (search rules) (search rules) returns)

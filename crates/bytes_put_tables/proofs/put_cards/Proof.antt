@@ -14,7 +14,7 @@ use Rattle.bytes_put_tables.proofs.Cards.{card_size_lem, cards_none, cards_next}
 use Rattle.bytes_put_tables.proofs.put_cards.Statement.{statement}
 use Rattle.bytes_put_tables.proofs.put_cards.Tie as tie
 
-abbrev invariant_loop : tie.invariant-loop
+abbrev invariant_loop : tie.invariant-loop-i
 invariant_loop buffer₀ at table count place₀ i₀ buffer place i =
     (i ≤ count)
     × (length buffer ≡ length buffer₀)
@@ -22,23 +22,22 @@ invariant_loop buffer₀ at table count place₀ i₀ buffer place i =
     × (length (cards_bytes (take i table.cards)) ≡ i * 32)
     × (buffer ≡ put (cards_bytes (take i table.cards)) at buffer₀)
 
-abbrev decreases_loop : tie.decreases-loop
+abbrev decreases_loop : tie.decreases-loop-i
 decreases_loop buffer₀ at table count place₀ i₀ buffer place i = count - i
 
-loop_holds : tie.Need-loop-init invariant_loop decreases_loop
+loop_holds : tie.Need-loop-i-init invariant_loop decreases_loop
 loop_holds c =
-    let a = c.before.args in
+    let a = c.args in
     (omega arith, refl, omega arith, rw cards_none, rw cards_none (sym (put_none a.at a.buffer.now (omega arith))))
 
-loop_again : tie.Need-loop-preserved invariant_loop decreases_loop
+loop_again : tie.Need-loop-i-preserved invariant_loop decreases_loop
 loop_again c =
-    let l = c.before.before.before.before.before.before.loop in
-    let s = c.before.before.before.before.before.before.before.before in
-    let a = s.args in
-    let e = c.before.before.put-card.ensures in
-    let card = get_or a.t3.cards l.i past_card in
-    let passed = cards_bytes (take l.i a.t3.cards) in
-    let next = cards_next a.t3.cards l.i past_card (omega (arith, eight a.t3 _ s.well-formed.1.1.0)) in
+    let l = c.loop-i in
+    let a = c.args in
+    let e = c.put_card.ensures in
+    let card = get_or a.table.cards l.i past_card in
+    let passed = cards_bytes (take l.i a.table.cards) in
+    let next = cards_next a.table.cards l.i past_card (omega (arith, eight a.table _ c.well_formed.1.1.0)) in
     let size = card_size_lem card e.1 in
     let long : length (passed ++ bytes_of_all (card_fields card)) ≡ (l.i + 1) * 32 = length-append passed (bytes_of_all (card_fields card)) ∙ omega arith in
     let place : l.place ≡ a.at + length passed = omega arith in (
@@ -51,8 +50,8 @@ loop_again c =
 
 returns : tie.Need-returns invariant_loop decreases_loop
 returns c =
-    let all : c.before.loop.i ≡ c.before.before.before.args.t3.count = omega arith in
-    rw all at c.before.loop.invariant.4
+    let all : c.loop-i.i ≡ c.args.table.count = omega arith in
+    rw all at c.loop-i.invariant.4
 
 pub put_cards_spec : {M : Type 1} → statement M
 put_cards_spec = tie.close (tie.spec invariant_loop decreases_loop loop_holds (search rules) (search rules) (search rules) (search rules) (search rules) (search rules) loop_again (search rules) returns)

@@ -9,8 +9,7 @@ use Rattle.bytes_put_tables.proofs.put_entry.Tie as tie
 returns : tie.Need-returns
 unfolding entry_bytes
 returns c =
-    let t = c.before.before.before.before.before.before.before.before.before.before.before.before.before in
-    let a = t.before.before.before.before.before.before.before.before.before.before.before.before.args in
+    let a = c.args in
     cc (put_fields_lem a.at (fields_of a.id a.kind a.size a.start) a.buffer.now (omega arith) (search rules))
 
 pub put_entry_spec : {M : Type 1} → statement M

@@ -7,95 +7,91 @@ use Rattle.base_format.specs.Header.{header_from}
 use Rattle.check_header.proofs.read_header.Statement.{statement}
 use Rattle.check_header.proofs.read_header.Tie as tie
 
-returns_2 : tie.Need-returns-2
+returns_2 : tie.Need-returns-then-read_u32-ne1397183810
 unfolding header_from
-returns_2 c = simp (← c.before.before.before.before.byte_at.ensures, ← c.before.before.before.header-size.ensures, le-ltb _ _ c.before.before.if1.false, ← c.before.read_u32.ensures, ne_eqb _ _ c.if2.true)
+returns_2 c = simp (← c.byte_at-version.ensures, ← c.header_size.ensures, le-ltb _ _ c.if-file-header_size.false, ← c.read_u32.ensures, ne_eqb _ _ c.if-read_u32-ne1397183810.true)
 
-returns_3 : tie.Need-returns-3
+returns_3 : tie.Need-returns-then-version-eq0
 unfolding header_from
 returns_3 c =
-    let t = c.before.before in
-    simp (← t.before.before.before.byte_at.ensures, ← t.before.before.header-size.ensures, le-ltb _ _ t.before.if1.false, ← t.read_u32.ensures, eq-eqb _ _ c.before.if2.false, eq-eqb _ _ c.if3.true)
+    simp (← c.byte_at-version.ensures, ← c.header_size.ensures, le-ltb _ _ c.if-file-header_size.false, ← c.read_u32.ensures, eq-eqb _ _ c.if-read_u32-ne1397183810.false, eq-eqb _ _ c.if-version-eq0.true)
 
-returns_4 : tie.Need-returns-4
+returns_4 : tie.Need-returns-then-version-gt4
 unfolding header_from
 returns_4 c =
     simp (
-      ← c.before.before.before.before.before.before.byte_at.ensures,
-      ← c.before.before.before.before.before.header-size.ensures,
-      le-ltb _ _ c.before.before.before.before.if1.false,
-      ← c.before.before.before.read_u32.ensures,
-      eq-eqb _ _ c.before.before.if2.false,
-      ne_eqb _ _ c.before.if3.false,
-      lt-ltb _ _ c.if4.true,
+      ← c.byte_at-version.ensures,
+      ← c.header_size.ensures,
+      le-ltb _ _ c.if-file-header_size.false,
+      ← c.read_u32.ensures,
+      eq-eqb _ _ c.if-read_u32-ne1397183810.false,
+      ne_eqb _ _ c.if-version-eq0.false,
+      lt-ltb _ _ c.if-version-gt4.true,
     )
 
-returns_5 : tie.Need-returns-5
+returns_5 : tie.Need-returns-then-byte_at-ne16
 unfolding header_from
 returns_5 c =
     simp (
-      ← c.before.before.before.before.before.before.before.before.byte_at.ensures,
-      ← c.before.before.before.before.before.before.before.header-size.ensures,
-      le-ltb _ _ c.before.before.before.before.before.before.if1.false,
-      ← c.before.before.before.before.before.read_u32.ensures,
-      eq-eqb _ _ c.before.before.before.before.if2.false,
-      ne_eqb _ _ c.before.before.before.if3.false,
-      le-ltb _ _ c.before.before.if4.false,
-      ← c.before.byte-at2.ensures,
-      ne_eqb _ _ c.if5.true,
+      ← c.byte_at-version.ensures,
+      ← c.header_size.ensures,
+      le-ltb _ _ c.if-file-header_size.false,
+      ← c.read_u32.ensures,
+      eq-eqb _ _ c.if-read_u32-ne1397183810.false,
+      ne_eqb _ _ c.if-version-eq0.false,
+      le-ltb _ _ c.if-version-gt4.false,
+      ← c.byte_at.ensures,
+      ne_eqb _ _ c.if-byte_at-ne16.true,
     )
 
-returns_6 : tie.Need-returns-6
+returns_6 : tie.Need-returns-then-flags_wrong
 unfolding header_from
 returns_6 c =
     simp (
-      ← c.before.before.before.before.before.before.before.before.before.before.byte_at.ensures,
-      ← c.before.before.before.before.before.before.before.before.before.header-size.ensures,
-      le-ltb _ _ c.before.before.before.before.before.before.before.before.if1.false,
-      ← c.before.before.before.before.before.before.before.read_u32.ensures,
-      eq-eqb _ _ c.before.before.before.before.before.before.if2.false,
-      ne_eqb _ _ c.before.before.before.before.before.if3.false,
-      le-ltb _ _ c.before.before.before.before.if4.false,
-      ← c.before.before.before.byte-at2.ensures,
-      eq-eqb _ _ c.before.before.if5.false,
-      ← c.before.flags-wrong.ensures,
-      c.if6.true,
+      ← c.byte_at-version.ensures,
+      ← c.header_size.ensures,
+      le-ltb _ _ c.if-file-header_size.false,
+      ← c.read_u32.ensures,
+      eq-eqb _ _ c.if-read_u32-ne1397183810.false,
+      ne_eqb _ _ c.if-version-eq0.false,
+      le-ltb _ _ c.if-version-gt4.false,
+      ← c.byte_at.ensures,
+      eq-eqb _ _ c.if-byte_at-ne16.false,
+      ← c.flags_wrong.ensures,
+      c.if-flags_wrong.true,
     )
 
 -- behind the test of the period every rule before it has passed
-passed : (k : tie.After-period-wrong)
-    → header_from k.before.before.before.before.before.before.before.before.before.before.before.before.before.before.args.file.now
-    ≡ (refuse 6 0 k.period-wrong.result >> ok k.before.header_of.result)
+passed : (k : tie.After-period_wrong)
+    → header_from k.args.file.now
+    ≡ (refuse 6 0 k.period_wrong.result >> ok k.header_of-header.result)
 unfolding header_from
 passed k =
-    let t = k.before.before.before in
-    let u = t.before.before.before in
-    let v = u.before.before.before in
     simp (
-      ← v.before.before.before.byte_at.ensures,
-      ← v.before.before.header-size.ensures,
-      le-ltb _ _ v.before.if1.false,
-      ← v.read_u32.ensures,
-      eq-eqb _ _ u.before.before.if2.false,
-      ne_eqb _ _ u.before.if3.false,
-      le-ltb _ _ u.if4.false,
-      ← t.before.before.byte-at2.ensures,
-      eq-eqb _ _ t.before.if5.false,
-      ← t.flags-wrong.ensures,
-      k.before.before.if6.false,
-      ← k.before.header_of.ensures,
-      ← k.period-wrong.ensures,
+      ← k.byte_at-version.ensures,
+      ← k.header_size.ensures,
+      le-ltb _ _ k.if-file-header_size.false,
+      ← k.read_u32.ensures,
+      eq-eqb _ _ k.if-read_u32-ne1397183810.false,
+      ne_eqb _ _ k.if-version-eq0.false,
+      le-ltb _ _ k.if-version-gt4.false,
+      ← k.byte_at.ensures,
+      eq-eqb _ _ k.if-byte_at-ne16.false,
+      ← k.flags_wrong.ensures,
+      k.if-flags_wrong.false,
+      ← k.header_of-header.ensures,
+      ← k.period_wrong.ensures,
     )
 
-returns_7 : tie.Need-returns-7
-returns_7 c = rw (passed c.before, c.if7.true)
+returns_7 : tie.Need-returns-then-period_wrong
+returns_7 c = rw (passed c, c.if-period_wrong.true)
 
-returns_8 : tie.Need-returns-8
-returns_8 c = rw (passed c.before, c.if7.false)
+returns_8 : tie.Need-returns
+returns_8 c = rw (passed c, c.if-period_wrong.false)
 
 pub read_header_spec : {M : Type 1} → statement M
 unfolding header_from
 read_header_spec =
     tie.close
-    (tie.spec (search rules) (search rules) (λ c. simp (← c.before.before.byte_at.ensures, ← c.before.header-size.ensures, lt-ltb _ _ c.if1.true)) (search rules) returns_2
+    (tie.spec (search rules) (search rules) (λ c. simp (← c.byte_at-version.ensures, ← c.header_size.ensures, lt-ltb _ _ c.if-file-header_size.true)) (search rules) returns_2
     returns_3 returns_4 (search rules) returns_5 (search rules) returns_6 (search rules) (search rules) returns_7 returns_8)

@@ -5,13 +5,13 @@ use borrow.Author.Rules.{rules}
 use Rattle.check_pool_entry.proofs.entry_of.Statement.{statement}
 use Rattle.check_pool_entry.proofs.entry_of.Tie as tie
 
-returns : tie.Need-returns
+returns : tie.Need-returns-then-id-header
 unfolding entry_of
-returns c = rw (lt-ltb _ _ c.before.if1.true) c.read-pool.ensures
+returns c = rw (lt-ltb _ _ c.if-id-header.true) c.read_pool.ensures
 
-returns_2 : tie.Need-returns-2
+returns_2 : tie.Need-returns
 unfolding entry_of
-returns_2 c = rw (le-ltb _ _ c.if1.false)
+returns_2 c = rw (le-ltb _ _ c.if-id-header.false)
 
 pub entry_of_spec : {M : Type 1} → statement M
 entry_of_spec = tie.close (tie.spec (search rules) returns returns_2)

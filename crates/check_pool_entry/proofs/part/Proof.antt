@@ -8,22 +8,22 @@ use native.Mathlib.Omega.{arith}
 use Rattle.check_pool_entry.proofs.part.Statement.{statement}
 use Rattle.check_pool_entry.proofs.part.Tie as tie
 
-returns : tie.Need-returns
+returns : tie.Need-returns-then-file-place
 returns c =
-    let a = c.before.before.args in
+    let a = c.args in
     let past : length a.file.now ≤ a.place = omega arith in
     rw (drop_of_length-le a.file.now past) (sym (take-nil a.size))
 
-returns_2 : tie.Need-returns-2
+returns_2 : tie.Need-returns-then-file-place-2
 returns_2 c =
-    let a = c.before.before.before.args in
+    let a = c.args in
     let rest = drop a.place a.file.now in
     let size = length-drop a.place a.file.now in
     rw (take_all (length a.file.now - a.place) rest (omega arith), take_all a.size rest (omega arith))
 
-returns_3 : tie.Need-returns-3
+returns_3 : tie.Need-returns
 returns_3 c =
-    let a = c.before.before.before.args in
+    let a = c.args in
     let size : a.place + a.size - a.place ≡ a.size = omega arith in
     rw size
 

@@ -5,7 +5,7 @@ use Rattle.check_pool_rules.proofs.check_pool.Tie as tie
 
 returns : tie.Need-returns
 returns c =
-    rw (c.then.ensures, c.before.refuse2.ensures, c.before.before.refuse.ensures, c.before.before.before.before.pool-wrong.ensures)
+    rw (c.then.ensures, c.refuse-payload.ensures, c.refuse-entry.ensures, c.pool_wrong-wrong.ensures)
 
 pub check_pool_spec : {M : Type 1} → statement M
 check_pool_spec = tie.close (tie.spec (search rules) (search rules) (search rules) (search rules) (search rules) (search rules) returns)

@@ -5,18 +5,18 @@ use Rattle.base_format.specs.Pool.{kind_wrong}
 use Rattle.check_pool_rules.proofs.kind_wrong.Statement.{statement}
 use Rattle.check_pool_rules.proofs.kind_wrong.Tie as tie
 
-returns_4 : tie.Need-returns-4
+returns_4 : tie.Need-returns-then-size-eq0-2
 unfolding kind_wrong
-returns_4 c = simp (ne_eqb _ _ c.before.before.before.if1.false, ne_eqb _ _ c.before.before.if2.false, eq-eqb _ _ c.before.if4.true, eq-eqb _ _ c.if5.true)
+returns_4 c = simp (ne_eqb _ _ c.if-kind-eq1.false, ne_eqb _ _ c.if-kind-eq2.false, eq-eqb _ _ c.if-kind-eq3.true, eq-eqb _ _ c.if-size-eq0-2.true)
 
-returns_5 : tie.Need-returns-5
+returns_5 : tie.Need-returns-then-kind-eq3
 unfolding kind_wrong
-returns_5 c = simp (ne_eqb _ _ c.before.before.before.before.if1.false, ne_eqb _ _ c.before.before.before.if2.false, eq-eqb _ _ c.before.before.if4.true, ne_eqb _ _ c.before.if5.false, ← c.bank-limit.ensures)
+returns_5 c = simp (ne_eqb _ _ c.if-kind-eq1.false, ne_eqb _ _ c.if-kind-eq2.false, eq-eqb _ _ c.if-kind-eq3.true, ne_eqb _ _ c.if-size-eq0-2.false, ← c.bank_limit.ensures)
 
 pub kind_wrong_spec : {M : Type 1} → statement M
 unfolding kind_wrong
 kind_wrong_spec =
     tie.close
-    (tie.spec (λ c. simp (eq-eqb _ _ c.if1.true)) (λ c. simp (ne_eqb _ _ c.before.before.if1.false, eq-eqb _ _ c.before.if2.true, eq-eqb _ _ c.if3.true))
-    (λ c. simp (ne_eqb _ _ c.before.before.if1.false, eq-eqb _ _ c.before.if2.true, ne_eqb _ _ c.if3.false)) returns_4 (search rules) returns_5
-    (λ c. simp (ne_eqb _ _ c.before.before.if1.false, ne_eqb _ _ c.before.if2.false, ne_eqb _ _ c.if4.false)))
+    (tie.spec (λ c. simp (eq-eqb _ _ c.if-kind-eq1.true)) (λ c. simp (ne_eqb _ _ c.if-kind-eq1.false, eq-eqb _ _ c.if-kind-eq2.true, eq-eqb _ _ c.if-size-eq0.true))
+    (λ c. simp (ne_eqb _ _ c.if-kind-eq1.false, eq-eqb _ _ c.if-kind-eq2.true, ne_eqb _ _ c.if-size-eq0.false)) returns_4 (search rules) returns_5
+    (λ c. simp (ne_eqb _ _ c.if-kind-eq1.false, ne_eqb _ _ c.if-kind-eq2.false, ne_eqb _ _ c.if-kind-eq3.false)))

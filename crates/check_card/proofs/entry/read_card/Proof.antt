@@ -5,8 +5,7 @@ use Rattle.check_card.proofs.entry.read_card.Tie as tie
 
 returns : tie.Need-returns
 returns c =
-    let t = c.before.before in
-    simp (← t.before.before.before.read-id.ensures, ← t.before.before.byte_at.ensures, ← t.before.byte-at2.ensures, ← t.read_u32.ensures, ← c.before.read-u322.ensures, ← c.read-u323.ensures)
+    simp (← c.read_id-id.ensures, ← c.byte_at.ensures, ← c.byte_at-2.ensures, ← c.read_u32.ensures, ← c.read_u32-2.ensures, ← c.read_u32-3.ensures)
 
 pub read_card_spec : {M : Type 1} → statement M
 read_card_spec =

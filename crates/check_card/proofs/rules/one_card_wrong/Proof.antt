@@ -6,22 +6,22 @@ use borrow.Author.Rules.{rules}
 use Rattle.check_card.proofs.rules.one_card_wrong.Statement.{statement}
 use Rattle.check_card.proofs.rules.one_card_wrong.Tie as tie
 
-returns_6 : tie.Need-returns-6
+returns_6 : tie.Need-returns
 unfolding one_card_wrong
 returns_6 c =
     rw (
-      le-ltb _ _ c.before.before.before.before.before.before.before.before.before.if1.false,
-      ne_eqb _ _ c.before.before.before.before.before.before.before.before.if2.false,
-      le-ltb _ _ c.before.before.before.before.before.before.before.if3.false,
-      ← c.before.before.before.before.before.padding-wrong.ensures,
-      c.before.before.before.before.if4.false,
-      le-ltb _ _ c.before.before.if5.false,
+      le-ltb _ _ c.if-card-gt7.false,
+      ne_eqb _ _ c.if-id_length-eq0.false,
+      le-ltb _ _ c.if-id_length-gt16.false,
+      ← c.padding_wrong.ensures,
+      c.if-padding_wrong.false,
+      le-ltb _ _ c.if-card-id_length-gt33554432.false,
     )
 
 pub one_card_wrong_spec : {M : Type 1} → statement M
 unfolding one_card_wrong
 one_card_wrong_spec =
     tie.close
-    (tie.spec (λ c. simp (lt-ltb _ _ c.if1.true)) (λ c. simp (eq-eqb _ _ c.if2.true, or-true)) (λ c. simp (lt-ltb _ _ c.if3.true, or-true)) (search rules)
-    (λ c. simp (← c.before.padding-wrong.ensures, c.if4.true, or-true)) (search rules) (search rules) (search rules) (λ c. simp (lt-ltb _ _ c.if5.true, or-true)) (search rules)
+    (tie.spec (λ c. simp (lt-ltb _ _ c.if-card-gt7.true)) (λ c. simp (eq-eqb _ _ c.if-id_length-eq0.true, or-true)) (λ c. simp (lt-ltb _ _ c.if-id_length-gt16.true, or-true)) (search rules)
+    (λ c. simp (← c.padding_wrong.ensures, c.if-padding_wrong.true, or-true)) (search rules) (search rules) (search rules) (λ c. simp (lt-ltb _ _ c.if-card-id_length-gt33554432.true, or-true)) (search rules)
     (search rules) (search rules) returns_6)

@@ -4,4 +4,4 @@ use Rattle.check_card.proofs.rules.padding.Statement.{statement}
 use Rattle.check_card.proofs.rules.padding.Tie as tie
 
 pub padding_spec : {M : Type 1} → statement M
-padding_spec = tie.close (tie.spec (λ c. rw (lt-ltb _ _ c.if1.true)) (λ c. rw (le-ltb _ _ c.if1.false)))
+padding_spec = tie.close (tie.spec (λ c. rw (lt-ltb _ _ c.if-place-id_length.true)) (λ c. rw (le-ltb _ _ c.if-place-id_length.false)))
