@@ -26,7 +26,7 @@ put_sizes_requires c κs =
 
 three : (c : tie.After-slice_known-4-1)
     → let a = c.args in
-    Writing (bytes_of_all (header_fields a.header)) 0 a.buffer.now (last a.header) 40 c.put_sizes.new.0
+    Writing (bytes_of_all (header_fields a.header)) 0 a.buffer.now (last a.header) 40 c.put_sizes.new.buffer
 three c =
     let sizes = rw c.size_field.ensures at c.put_sizes.ensures in
     three_written c.args.header c.requires.1 c.requires.2 c.requires.0 c.put_front.ensures c.put_counts.ensures sizes

@@ -11,17 +11,17 @@ use Rattle.bytes_put_items.proofs.put_item.Tie as tie
 
 put_write_requires : tie.Need-put_write-requires
 put_write_requires c κs =
-    let room = rw (c.operation-1.given.1, ← c.address_width-width.ensures.0) at c.requires.1 in
+    let room = rw (c.in-Write.is, ← c.address_width-width.ensures.0) at c.requires.1 in
     (c.address_width-width.ensures.1, c.address_width-width.ensures.2, omega (arith, room))
 
 put_fill_requires : tie.Need-put_fill-requires
 put_fill_requires c κs =
-    let room = rw (c.operation-in-Fill-1.given.1, ← c.address_width-width.ensures.0) at c.requires.1 in
+    let room = rw (c.in-Fill.is, ← c.address_width-width.ensures.0) at c.requires.1 in
     (c.address_width-width.ensures.1, c.address_width-width.ensures.2, omega (arith, room))
 
 put_copy_requires : tie.Need-put_copy-requires
 put_copy_requires c κs =
-    let room = rw (c.operation-in-Copy-1.given.1, ← c.address_width-width.ensures.0) at c.requires.1 in
+    let room = rw (c.in-Copy.is, ← c.address_width-width.ensures.0) at c.requires.1 in
     (c.address_width-width.ensures.1, c.address_width-width.ensures.2, omega (arith, room))
 
 -- the bytes of the operation that the case gives
@@ -34,6 +34,6 @@ pub put_item_spec : {M : Type 1} → statement M
 put_item_spec =
     tie.close
     (tie.spec (search rules) (search rules) put_write_requires (search rules) put_fill_requires (search rules) put_copy_requires (search rules)
-    (λ c. rw (bytes_are c.before.before.before.before.before.before.before _ c.operation-1.given.1) c.put_write.ensures) (search rules)
-    (λ c. rw (bytes_are c.before.before.before.before.before.before.before _ c.operation-in-Fill-1.given.1) c.put_fill.ensures) (search rules)
-    (λ c. rw (bytes_are c.before.before.before.before.before.before.before _ c.operation-in-Copy-1.given.1) c.put_copy.ensures))
+    (λ c. rw (bytes_are c.before.before.before.before.before _ c.in-Write.is) c.put_write.ensures) (search rules)
+    (λ c. rw (bytes_are c.before.before.before.before.before _ c.in-Fill.is) c.put_fill.ensures) (search rules)
+    (λ c. rw (bytes_are c.before.before.before.before.before _ c.in-Copy.is) c.put_copy.ensures))

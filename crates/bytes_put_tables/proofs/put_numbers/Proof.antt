@@ -10,7 +10,7 @@ use Rattle.bytes_put_tables.proofs.put_numbers.Tie as tie
 returns : tie.Need-returns
 returns c =
     let a = c.args in
-    cc (two_zeros, put_fields_lem a.at (number_fields a.slot a.id-length a.id-offset a.bulk-start a.bulk-length) a.buffer.now (omega arith) (search rules))
+    cc (two_zeros, put_fields_lem a.at (number_fields a.slot a.id_length a.id_offset a.bulk_start a.bulk_length) a.buffer.now (omega arith) (search rules))
 
 pub put_numbers_spec : {M : Type 1} → statement M
 put_numbers_spec =

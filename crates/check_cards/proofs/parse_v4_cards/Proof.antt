@@ -8,62 +8,55 @@ use Rattle.check_cards.proofs.CardWalk.{Seen, seen_none, fine_card, seen_wrong, 
 use Rattle.check_cards.proofs.parse_v4_cards.Statement.{statement}
 use Rattle.check_cards.proofs.parse_v4_cards.Tie as tie
 
-abbrev invariant_loop : tie.invariant-loop
+abbrev invariant_loop : tie.invariant-loop-i
 invariant_loop file count cards₀ least₀ i₀ total cards least i = (total ≡ count) × Seen file count cards least i
 
-abbrev decreases_loop : tie.decreases-loop
+abbrev decreases_loop : tie.decreases-loop-i
 decreases_loop file count cards₀ least₀ i₀ total cards least i = total - i
 
-loop_holds : tie.Need-loop-init invariant_loop decreases_loop
-loop_holds c = (refl, rw c.no-card.ensures (seen_none _ _))
+loop_holds : tie.Need-loop-i-init invariant_loop decreases_loop
+loop_holds c = (refl, rw c.no_card-none.ensures (seen_none _ _))
 
-returns : tie.Need-returns invariant_loop decreases_loop
+returns : tie.Need-returns-then-file-at invariant_loop decreases_loop
 returns c =
-    let l = c.before.before.before in
-    let s = l.before.before.before.args in
-    c.refused-card.ensures
-    ∙ sym (seen_wrong s.file.now s.count l.loop.cards l.loop.least l.loop.i (omega arith) l.loop.invariant.1 (rw (lt-ltb _ _ c.before.if1.true)))
+    let s = c.args in
+    c.refused_card.ensures
+    ∙ sym (seen_wrong s.file.now s.count c.loop-i.cards c.loop-i.least c.loop-i.i (omega arith) c.loop-i.invariant.1 (rw (lt-ltb _ _ c.if-file-at.true)))
 
-returns_2 : tie.Need-returns-2 invariant_loop decreases_loop
+returns_2 : tie.Need-returns-then-card_wrong invariant_loop decreases_loop
 returns_2 c =
-    let l = c.before.before.before.before.before.before in
-    let s = l.before.before.before.args in
-    c.refused-card2.ensures
-    ∙ sym (seen_wrong s.file.now s.count l.loop.cards l.loop.least l.loop.i (omega arith) l.loop.invariant.1
-    (rw (le-ltb _ _ c.before.before.before.before.if1.false, ← c.before.before.before.read-card.ensures, ← c.before.before.card-wrong.ensures, c.before.if2.true)))
+    let s = c.args in
+    c.refused_card-then-card_wrong.ensures
+    ∙ sym (seen_wrong s.file.now s.count c.loop-i.cards c.loop-i.least c.loop-i.i (omega arith) c.loop-i.invariant.1
+    (rw (le-ltb _ _ c.if-file-at.false, ← c.read_card-card.ensures, ← c.card_wrong.ensures, c.if-card_wrong.true)))
 
-mul_cards : tie.Need-overflow-mul-cards invariant_loop decreases_loop
+mul_cards : tie.Need-offset_bounds-cards-i invariant_loop decreases_loop
 mul_cards c =
-    let l = c.before.before.before.before.before in
-    let s = l.before.before.before.args in
-    omega (arith, fine_card s.file.now _ l.loop.i l.loop.least _ l.loop.invariant.1.rising (sym c.before.card-wrong.ensures ∙ c.if2.false))
+    let s = c.args in
+    omega (arith, fine_card s.file.now _ c.loop-i.i c.loop-i.least _ c.loop-i.invariant.1.rising (sym c.card_wrong.ensures ∙ c.if-card_wrong.false))
 
-array_set_from_cards : tie.Need-array-set-from-cards invariant_loop decreases_loop
+array_set_from_cards : tie.Need-bounds-cards-i invariant_loop decreases_loop
 array_set_from_cards c =
-    let l = c.before.before.before.before.before in
-    let s = l.before.before.before.args in
-    omega (arith, fine_card s.file.now _ l.loop.i l.loop.least _ l.loop.invariant.1.rising (sym c.before.card-wrong.ensures ∙ c.if2.false))
+    let s = c.args in
+    omega (arith, fine_card s.file.now _ c.loop-i.i c.loop-i.least _ c.loop-i.invariant.1.rising (sym c.card_wrong.ensures ∙ c.if-card_wrong.false))
 
-add_least : tie.Need-overflow-add-least invariant_loop decreases_loop
+add_least : tie.Need-overflow_add-least invariant_loop decreases_loop
 add_least c =
-    let l = c.before.before.before.before.before.before in
-    let s = l.before.before.before.args in
-    omega (arith, fine_card s.file.now _ l.loop.i l.loop.least _ l.loop.invariant.1.rising (sym c.before.before.card-wrong.ensures ∙ c.before.if2.false))
+    let s = c.args in
+    omega (arith, fine_card s.file.now _ c.loop-i.i c.loop-i.least _ c.loop-i.invariant.1.rising (sym c.card_wrong.ensures ∙ c.if-card_wrong.false))
 
-loop_again : tie.Need-loop-preserved invariant_loop decreases_loop
+loop_again : tie.Need-loop-i-preserved invariant_loop decreases_loop
 loop_again c =
-    let l = c.before.before.before.before.before.before in
-    let s = l.before.before.before.args in (
+    let s = c.args in (
       refl,
-      rw c.before.before.before.read-card.ensures (seen_next s.file.now s.count l.loop.cards l.loop.least l.loop.i (omega arith) l.loop.invariant.1 (omega arith)
-          (rw (← c.before.before.before.read-card.ensures, ← c.before.before.card-wrong.ensures) c.before.if2.false)),
+      rw c.read_card-card.ensures (seen_next s.file.now s.count c.loop-i.cards c.loop-i.least c.loop-i.i (omega arith) c.loop-i.invariant.1 (omega arith)
+          (rw (← c.read_card-card.ensures, ← c.card_wrong.ensures) c.if-card_wrong.false)),
     )
 
-returns_3 : tie.Need-returns-3 invariant_loop decreases_loop
+returns_3 : tie.Need-returns invariant_loop decreases_loop
 returns_3 c =
-    let l = c.before in
-    let s = l.before.before.before.args in
-    seen_all s.file.now s.count l.loop.cards l.loop.least l.loop.i (omega arith) l.loop.invariant.1
+    let s = c.args in
+    seen_all s.file.now s.count c.loop-i.cards c.loop-i.least c.loop-i.i (omega arith) c.loop-i.invariant.1
 
 pub parse_v4_cards_spec : {M : Type 1} → statement M
 parse_v4_cards_spec =

@@ -4,7 +4,7 @@ use Rattle.check_cards.proofs.refused_card.Statement.{statement}
 use Rattle.check_cards.proofs.refused_card.Tie as tie
 
 returns : tie.Need-returns
-returns c = rw c.no-cards.ensures
+returns c = rw c.no_cards-cards.ensures
 
 pub refused_card_spec : {M : Type 1} → statement M
 refused_card_spec = tie.close (tie.spec (search rules) returns)

@@ -7,47 +7,45 @@ use Rattle.base_format.proofs.Decided.{decided}
 use Rattle.check_copy.proofs.check_copy.Statement.{statement}
 use Rattle.check_copy.proofs.check_copy.Tie as tie
 
-returns : tie.Need-returns
+returns : tie.Need-returns-then-missing
 unfolding copy_rules
-returns c = search (decided, ← c.before.missing.ensures, c.if1.true)
+returns c = search (decided, ← c.missing.ensures, c.if-missing.true)
 
-returns_2 : tie.Need-returns-2
+returns_2 : tie.Need-returns-then-version-eq4
 unfolding copy_rules
-returns_2 c = search (decided, ← c.before.before.before.before.missing.ensures, c.before.before.before.if1.false, ← c.before.before.outside.ensures, c.before.if2.true)
+returns_2 c = search (decided, ← c.missing.ensures, c.if-missing.false, ← c.outside.ensures, c.if-outside.true)
 
-returns_3 : tie.Need-returns-3
+returns_3 : tie.Need-returns-then-pools-number
 unfolding copy_rules
-returns_3 c = search (decided, ← c.before.before.before.before.before.missing.ensures, c.before.before.before.before.if1.false, ← c.before.before.before.outside.ensures, c.before.before.if2.true)
+returns_3 c = search (decided, ← c.missing.ensures, c.if-missing.false, ← c.outside.ensures, c.if-outside.true)
 
-returns_4 : tie.Need-returns-4
+returns_4 : tie.Need-returns-then-outside
 unfolding copy_rules
-returns_4 c = search (decided, ← c.before.before.before.before.before.missing.ensures, c.before.before.before.before.if1.false, ← c.before.before.before.outside.ensures, c.before.before.if2.true)
+returns_4 c = search (decided, ← c.missing.ensures, c.if-missing.false, ← c.outside.ensures, c.if-outside.true)
 
-returns_5 : tie.Need-returns-5
+returns_5 : tie.Need-returns-then-pools-number-2
 unfolding copy_rules
-returns_5 c = search (decided, ← c.before.before.before.before.missing.ensures, c.before.before.before.if1.false, ← c.before.before.outside.ensures, c.before.if2.false, and-false)
+returns_5 c = search (decided, ← c.missing.ensures, c.if-missing.false, ← c.outside.ensures, c.if-outside.false, and-false)
 
-returns_6 : tie.Need-returns-6
+returns_6 : tie.Need-returns-then-copy_wrong
 unfolding copy_rules
 returns_6 c =
     simp (
-      ← c.before.before.before.before.before.before.before.missing.ensures,
-      c.before.before.before.before.before.before.if1.false,
-      ← c.before.before.before.before.before.outside.ensures,
-      c.before.before.before.before.if2.false,
+      ← c.missing.ensures,
+      c.if-missing.false,
+      ← c.outside.ensures,
+      c.if-outside.false,
       and-false,
-      lt-leb _ _ c.before.before.before.if5.false,
-      ← c.before.before.read-pool.ensures,
-      ← c.before.copy-wrong.ensures,
-      c.if6.true,
+      lt-leb _ _ c.if-pools-number-2.false,
+      ← c.read_pool-pool.ensures,
+      ← c.copy_wrong.ensures,
+      c.if-copy_wrong.true,
     )
 
-returns_7 : tie.Need-returns-7
+returns_7 : tie.Need-returns
 unfolding copy_rules
 returns_7 c =
-    let t = c.before.before in
-    let u = t.before.before.before in
-    search (decided, ← u.before.before.missing.ensures, u.before.if1.false, ← u.outside.ensures, t.before.before.if2.false, and-false, ← t.read-pool.ensures, ← c.before.copy-wrong.ensures, c.if6.false)
+    search (decided, ← c.missing.ensures, c.if-missing.false, ← c.outside.ensures, c.if-outside.false, and-false, ← c.read_pool-pool.ensures, ← c.copy_wrong.ensures, c.if-copy_wrong.false)
 
 pub check_copy_spec : {M : Type 1} → statement M
 check_copy_spec = tie.close (tie.spec (search rules) returns (search rules) returns_2 returns_3 returns_4 returns_5 (search rules) (search rules) returns_6 returns_7)

@@ -4,13 +4,13 @@ use Rattle.check_fast_limits.specs.Limits.{bulk_end}
 use Rattle.check_fast_limits.proofs.bulk_end.Statement.{statement}
 use Rattle.check_fast_limits.proofs.bulk_end.Tie as tie
 
-returns : tie.Need-returns
+returns : tie.Need-returns-then-missing
 unfolding bulk_end
-returns c = simp (← c.before.missing.ensures, c.if1.true)
+returns c = simp (← c.missing.ensures, c.if-missing.true)
 
-returns_2 : tie.Need-returns-2
+returns_2 : tie.Need-returns
 unfolding bulk_end
-returns_2 c = simp (← c.before.before.before.missing.ensures, c.before.before.if1.false, ← c.before.bulk-start.ensures, ← c.bulk-length.ensures)
+returns_2 c = simp (← c.missing.ensures, c.if-missing.false, ← c.bulk_start.ensures, ← c.bulk_length.ensures)
 
 pub bulk_end_spec : {M : Type 1} → statement M
 bulk_end_spec = tie.close (tie.spec (λ c. omega arith) returns (λ c. omega arith) (λ c. omega arith) (λ c. omega arith) (λ c. omega arith) (λ c. omega arith) (λ c. omega arith) returns_2)

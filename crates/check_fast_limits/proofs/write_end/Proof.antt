@@ -6,16 +6,16 @@ use Rattle.check_fast_limits.specs.Limits.{write_end}
 use Rattle.check_fast_limits.proofs.write_end.Statement.{statement}
 use Rattle.check_fast_limits.proofs.write_end.Tie as tie
 
-returns : tie.Need-returns
+returns : tie.Need-returns-then-missing
 unfolding write_end
-returns c = simp (← c.before.missing.ensures, c.if1.true, and-false, or-false)
+returns c = simp (← c.missing.ensures, c.if-missing.true, and-false, or-false)
 
-add_result : tie.Need-overflow-add-result
-add_result c = omega (arith, c.write-limit.ensures, write_limit_range c.before.before.before.args.target)
+add_result : tie.Need-overflow_add-result
+add_result c = omega (arith, c.write_limit.ensures, write_limit_range c.args.target)
 
-returns_2 : tie.Need-returns-2
+returns_2 : tie.Need-returns
 unfolding write_end
-returns_2 c = simp (← c.before.before.missing.ensures, c.before.if1.false, ← c.write-limit.ensures, and-false, or-false)
+returns_2 c = simp (← c.missing.ensures, c.if-missing.false, ← c.write_limit.ensures, and-false, or-false)
 
 pub write_end_spec : {M : Type 1} → statement M
 write_end_spec = tie.close (tie.spec (λ c. omega arith) returns (λ c. omega arith) add_result returns_2)

@@ -6,32 +6,31 @@ use Rattle.check_fast_rules.specs.Quick.{pool_fits}
 use Rattle.check_fast_rules.proofs.pool_fits.Statement.{statement}
 use Rattle.check_fast_rules.proofs.pool_fits.Tie as tie
 
-returns : tie.Need-returns
+returns : tie.Need-returns-then-read_u32-source
 unfolding pool_fits
-returns c = simp (← c.before.read_u32.ensures, lt-leb _ _ c.if1.true, lt-ltb _ _ c.if1.true, and-false, or-false)
+returns c = simp (← c.read_u32.ensures, lt-leb _ _ c.if-read_u32-source.true, lt-ltb _ _ c.if-read_u32-source.true, and-false, or-false)
 
-returns_2 : tie.Need-returns-2
+returns_2 : tie.Need-returns-then-byte_at-kind
 unfolding pool_fits
 returns_2 c =
-    simp (← c.before.before.before.read_u32.ensures, le-ltb _ _ c.before.before.if1.false, le-leb _ _ c.before.before.if1.false, ← c.before.byte_at.ensures, ne_eqb _ _ c.if2.true, and-false, or-false)
+    simp (← c.read_u32.ensures, le-ltb _ _ c.if-read_u32-source.false, le-leb _ _ c.if-read_u32-source.false, ← c.byte_at.ensures, ne_eqb _ _ c.if-byte_at-kind.true, and-false, or-false)
 
-returns_3 : tie.Need-returns-3
+returns_3 : tie.Need-returns-then-kind-ne1
 unfolding pool_fits
 returns_3 c =
-    let t = c.before.before in
-    simp (← t.before.before.read_u32.ensures, le-ltb _ _ t.before.if1.false, le-leb _ _ t.before.if1.false, ← t.byte_at.ensures, eq-eqb _ _ c.before.if2.false, ne_eqb _ _ c.if3.true, and-false, or-false)
+    simp (← c.read_u32.ensures, le-ltb _ _ c.if-read_u32-source.false, le-leb _ _ c.if-read_u32-source.false, ← c.byte_at.ensures, eq-eqb _ _ c.if-byte_at-kind.false, ne_eqb _ _ c.if-kind-ne1.true, and-false, or-false)
 
-returns_4 : tie.Need-returns-4
+returns_4 : tie.Need-returns
 unfolding pool_fits
 returns_4 c =
     simp (
-      ← c.before.before.before.before.before.read_u32.ensures,
-      le-ltb _ _ c.before.before.before.before.if1.false,
-      le-leb _ _ c.before.before.before.before.if1.false,
-      ← c.before.before.before.byte_at.ensures,
-      eq-eqb _ _ c.before.before.if2.false,
-      eq-eqb _ _ c.before.if3.false,
-      ← c.whole-wave.ensures,
+      ← c.read_u32.ensures,
+      le-ltb _ _ c.if-read_u32-source.false,
+      le-leb _ _ c.if-read_u32-source.false,
+      ← c.byte_at.ensures,
+      eq-eqb _ _ c.if-byte_at-kind.false,
+      eq-eqb _ _ c.if-kind-ne1.false,
+      ← c.whole_wave.ensures,
       and-false,
       or-false,
     )

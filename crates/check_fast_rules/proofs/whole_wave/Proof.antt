@@ -5,17 +5,17 @@ use Rattle.check_fast_rules.specs.Quick.{whole_wave}
 use Rattle.check_fast_rules.proofs.whole_wave.Statement.{statement}
 use Rattle.check_fast_rules.proofs.whole_wave.Tie as tie
 
-returns : tie.Need-returns
+returns : tie.Need-returns-then-address-ne0
 unfolding whole_wave
-returns c = simp (ne_eqb _ _ c.if1.true, and-false, or-false)
+returns c = simp (ne_eqb _ _ c.if-address-ne0.true, and-false, or-false)
 
-returns_2 : tie.Need-returns-2
+returns_2 : tie.Need-returns-then-source-ne0
 unfolding whole_wave
-returns_2 c = simp (eq-eqb _ _ c.before.if1.false, ne_eqb _ _ c.if2.true, and-false, or-false)
+returns_2 c = simp (eq-eqb _ _ c.if-address-ne0.false, ne_eqb _ _ c.if-source-ne0.true, and-false, or-false)
 
-returns_3 : tie.Need-returns-3
+returns_3 : tie.Need-returns
 unfolding whole_wave
-returns_3 c = simp (eq-eqb _ _ c.before.if1.false, eq-eqb _ _ c.if2.false, and-false, or-false)
+returns_3 c = simp (eq-eqb _ _ c.if-address-ne0.false, eq-eqb _ _ c.if-source-ne0.false, and-false, or-false)
 
 pub whole_wave_spec : {M : Type 1} → statement M
 whole_wave_spec = tie.close (tie.spec returns returns_2 returns_3)

@@ -84,10 +84,10 @@ passed k =
     )
 
 returns_7 : tie.Need-returns-then-period_wrong
-returns_7 c = rw (passed c, c.if-period_wrong.true)
+returns_7 c = rw (passed c.before, c.if-period_wrong.true)
 
 returns_8 : tie.Need-returns
-returns_8 c = rw (passed c, c.if-period_wrong.false)
+returns_8 c = rw (passed c.before, c.if-period_wrong.false)
 
 pub read_header_spec : {M : Type 1} → statement M
 unfolding header_from

@@ -8,8 +8,7 @@ use Rattle.index_check.proofs.frame_place.Tie as tie
 returns : tie.Need-returns
 unfolding place_by
 returns c =
-    let r = c.before in
-    rw (sym r.before.from_zero.ensures, sym r.read_u32.ensures) c.frames-end.ensures
+    rw (sym c.from_zero-number.ensures, sym c.read_u32-start.ensures) c.frames_end.ensures
 
 pub frame_place_spec : {M : Type 1} → statement M
 frame_place_spec = tie.close (tie.spec (search rules) (search rules) (search rules) (search rules) (search rules) (search rules) returns)

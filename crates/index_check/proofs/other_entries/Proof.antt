@@ -9,42 +9,34 @@ use Rattle.index_check.proofs.Steps.{entry_same, entry_differs, none_differs}
 use Rattle.index_check.proofs.other_entries.Statement.{statement}
 use Rattle.index_check.proofs.other_entries.Tie as tie
 
-abbrev invariant_loop : tie.invariant-loop
+abbrev invariant_loop : tie.invariant-loop-i
 invariant_loop file version index entries start at₀ i₀ at i =
     (i ≤ entries) × (entries_other version file index entries 0 start ≡ entries_other version file index (entries - i) i at)
 
-abbrev decreases_loop : tie.decreases-loop
+abbrev decreases_loop : tie.decreases-loop-i
 decreases_loop file version index entries start at₀ i₀ at i = entries - i
 
-loop_holds : tie.Need-loop-init invariant_loop decreases_loop
+loop_holds : tie.Need-loop-i-init invariant_loop decreases_loop
 loop_holds c = (omega arith, rw sub-zero)
 
-returns : tie.Need-returns invariant_loop decreases_loop
+returns : tie.Need-returns-then-read_u32-at invariant_loop decreases_loop
 returns c =
-    let r = c.before in
-    let l = r.before.before in
-    let s = l.before.before.before in
-    let differs = entry_differs s.args.version s.args.file.now s.args.index.now (s.args.entries - l.loop.i) l.loop.i l.loop.at (omega arith) in
-    sym (l.loop.invariant.1 ∙ differs (λ same. c.if1.true (r.read_u32.ensures ∙ same)))
+    let differs = entry_differs c.args.version c.args.file.now c.args.index.now (c.args.entries - c.loop-i.i) c.loop-i.i c.loop-i.at (omega arith) in
+    sym (c.loop-i.invariant.1 ∙ differs (λ same. c.if-read_u32-at.true (c.read_u32.ensures ∙ same)))
 
-loop_again : tie.Need-loop-preserved invariant_loop decreases_loop
+loop_again : tie.Need-loop-i-preserved invariant_loop decreases_loop
 loop_again c =
-    let r = c.before.before in
-    let l = r.before.before in
-    let s = l.before.before.before in
-    let left : s.args.entries - l.loop.i - 1 ≡ s.args.entries - (l.loop.i + 1) = omega arith in
-    let same = sym r.read_u32.ensures ∙ c.before.if1.false in
-    let step = entry_same s.args.version s.args.file.now s.args.index.now (s.args.entries - l.loop.i) l.loop.i l.loop.at (omega arith) same in
-    (omega arith, l.loop.invariant.1 ∙ step ∙ (λ k. entries_other s.args.version s.args.file.now s.args.index.now (left k) (l.loop.i + 1) (sym c.frames-end.ensures k)))
+    let left : c.args.entries - c.loop-i.i - 1 ≡ c.args.entries - (c.loop-i.i + 1) = omega arith in
+    let same = sym c.read_u32.ensures ∙ c.if-read_u32-at.false in
+    let step = entry_same c.args.version c.args.file.now c.args.index.now (c.args.entries - c.loop-i.i) c.loop-i.i c.loop-i.at (omega arith) same in
+    (omega arith, c.loop-i.invariant.1 ∙ step ∙ (λ k. entries_other c.args.version c.args.file.now c.args.index.now (left k) (c.loop-i.i + 1) (sym c.frames_end-at.ensures k)))
 
-returns_2 : tie.Need-returns-2 invariant_loop decreases_loop
+returns_2 : tie.Need-returns invariant_loop decreases_loop
 returns_2 c =
-    let l = c.before in
-    let s = l.before.before.before in
-    let none : s.args.entries - l.loop.i ≡ 0 = omega arith in
-    let a = s.args in
-    let left = ap (λ (n : ℕ). entries_other a.version a.file.now a.index.now n l.loop.i l.loop.at) none in
-    sym (l.loop.invariant.1 ∙ left ∙ none_differs a.version a.file.now a.index.now l.loop.i l.loop.at)
+    let none : c.args.entries - c.loop-i.i ≡ 0 = omega arith in
+    let a = c.args in
+    let left = ap (λ (n : ℕ). entries_other a.version a.file.now a.index.now n c.loop-i.i c.loop-i.at) none in
+    sym (c.loop-i.invariant.1 ∙ left ∙ none_differs a.version a.file.now a.index.now c.loop-i.i c.loop-i.at)
 
 pub other_entries_spec : {M : Type 1} → statement M
 other_entries_spec =

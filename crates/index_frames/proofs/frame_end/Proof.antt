@@ -6,24 +6,19 @@ use Rattle.index_laws.specs.Frames.{frame_walked}
 use Rattle.index_frames.proofs.frame_end.Statement.{statement}
 use Rattle.index_frames.proofs.frame_end.Tie as tie
 
-returns : tie.Need-returns
+returns : tie.Need-returns-then-version-eq1
 unfolding frame_walked
 returns c =
-    let r = c.before in
-    let t = r.before in
-    rw (sym t.before.smaller.ensures.0, lt-ltb _ _ t.if1.true, eq-eqb _ _ c.if2.true, sym r.read-u16.ensures)
+    rw (sym c.smaller-limit.ensures.0, lt-ltb _ _ c.if-at-limit.true, eq-eqb _ _ c.if-version-eq1.true, sym c.read_u16-count.ensures)
 
-returns_2 : tie.Need-returns-2
+returns_2 : tie.Need-returns-then-at-limit
 unfolding frame_walked
 returns_2 c =
-    let w = c.before in
-    let r = w.before.before in
-    let t = r.before in
-    rw (sym t.before.smaller.ensures.0, lt-ltb _ _ t.if1.true, ne_eqb _ _ w.before.if2.false, sym r.read-u16.ensures, sym w.address-width.ensures.0) c.items-end.ensures
+    rw (sym c.smaller-limit.ensures.0, lt-ltb _ _ c.if-at-limit.true, ne_eqb _ _ c.if-version-eq1.false, sym c.read_u16-count.ensures, sym c.address_width.ensures.0) c.items_end.ensures
 
-returns_3 : tie.Need-returns-3
+returns_3 : tie.Need-returns
 unfolding frame_walked
-returns_3 c = rw (sym c.before.smaller.ensures.0, le-ltb _ _ c.if1.false)
+returns_3 c = rw (sym c.smaller-limit.ensures.0, le-ltb _ _ c.if-at-limit.false)
 
 pub frame_end_spec : {M : Type 1} → statement M
 frame_end_spec =

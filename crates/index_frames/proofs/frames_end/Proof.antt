@@ -10,12 +10,12 @@ use Rattle.index_frames.proofs.frames_end.Tie as tie
 
 returns : tie.Need-returns
 returns c =
-    let a = c.before.before.before.args in
-    let passed = c.before.pass-empty.ensures in
-    let left : a.count - (a.count - c.before.pass-empty.result.left) ≡ c.before.pass-empty.result.left = omega (arith, passed.most) in
-    c.walk-frames.ensures
+    let a = c.args in
+    let passed = c.pass_empty-next.ensures in
+    let left : a.count - (a.count - c.pass_empty-next.result.left) ≡ c.pass_empty-next.result.left = omega (arith, passed.most) in
+    c.walk_frames.ensures
     ∙ (λ i. frames_walked a.version a.file.now (sym left i) (passed.here i))
-    ∙ sym (empty_walked a.version a.file.now (a.count - c.before.pass-empty.result.left) a.count a.start (omega arith) passed.empty)
+    ∙ sym (empty_walked a.version a.file.now (a.count - c.pass_empty-next.result.left) a.count a.start (omega arith) passed.empty)
 
 pub frames_end_spec : {M : Type 1} → statement M
 frames_end_spec = tie.close (tie.spec (search rules) (search rules) returns)

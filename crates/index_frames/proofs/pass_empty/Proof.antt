@@ -10,55 +10,46 @@ use Rattle.index_laws.proofs.Empty.{none_passed, four_passed}
 use Rattle.index_frames.proofs.pass_empty.Statement.{statement}
 use Rattle.index_frames.proofs.pass_empty.Tie as tie
 
-abbrev invariant_loop : tie.invariant-loop
+abbrev invariant_loop : tie.invariant-loop-left
 invariant_loop file count start limit at₀ left₀ at left = EmptyPassed file count start left at
 
-abbrev decreases_loop : tie.decreases-loop
+abbrev decreases_loop : tie.decreases-loop-left
 decreases_loop file count start limit at₀ left₀ at left = left
 
-loop_holds : tie.Need-loop-init invariant_loop decreases_loop
-loop_holds c = let s = c.before.before in none_passed s.args.file.now s.args.count s.args.start
+loop_holds : tie.Need-loop-left-init invariant_loop decreases_loop
+loop_holds c = none_passed c.args.file.now c.args.count c.args.start
 
-returns : tie.Need-returns invariant_loop decreases_loop
-returns c = c.before.before.before.loop.invariant
+returns : tie.Need-returns-then-passes invariant_loop decreases_loop
+returns c = c.loop-left.invariant
 
-returns_2 : tie.Need-returns-2 invariant_loop decreases_loop
-returns_2 c = c.before.before.before.before.before.loop.invariant
+returns_2 : tie.Need-returns-then-read_u32-ne0 invariant_loop decreases_loop
+returns_2 c = c.loop-left.invariant
 
-add_read_u32 : tie.Need-overflow-add-read-u32 invariant_loop decreases_loop
+add_read_u32 : tie.Need-overflow_add-at invariant_loop decreases_loop
 add_read_u32 c =
-    let p = c.before.before.before in
-    let l = p.before.before in
-    omega (arith, ltb-false l.before.smaller.result (l.loop.at + 8) (sym p.passes.ensures ∙ c.before.before.if1.false))
+    omega (arith, ltb-false c.smaller-limit.result (c.loop-left.at + 8) (sym c.passes.ensures ∙ c.if-passes.false))
 
-returns_3 : tie.Need-returns-3 invariant_loop decreases_loop
-returns_3 c = c.before.before.before.before.before.before.before.loop.invariant
+returns_3 : tie.Need-returns-then-read_u32-ne0-2 invariant_loop decreases_loop
+returns_3 c = c.loop-left.invariant
 
-add_at : tie.Need-overflow-add-at invariant_loop decreases_loop
+add_at : tie.Need-overflow_add-at-in-loop-left invariant_loop decreases_loop
 add_at c =
-    let p = c.before.before.before.before.before in
-    let l = p.before.before in
-    omega (arith, ltb-false l.before.smaller.result (l.loop.at + 8) (sym p.passes.ensures ∙ c.before.before.before.before.if1.false))
+    omega (arith, ltb-false c.smaller-limit.result (c.loop-left.at + 8) (sym c.passes.ensures ∙ c.if-passes.false))
 
-loop_less : tie.Need-loop-smaller invariant_loop decreases_loop
+loop_less : tie.Need-loop-left-smaller invariant_loop decreases_loop
 loop_less c = search rules
 
-loop_again : tie.Need-loop-preserved invariant_loop decreases_loop
+loop_again : tie.Need-loop-left-preserved invariant_loop decreases_loop
 loop_again c =
-    let r = c.before.before.before in
-    let p = r.before.before in
-    let t = p.before in
-    let l = t.before in
-    let s = l.before.before.before in
-    let file = s.args.file.now in
-    let within = ltb-false l.before.smaller.result (l.loop.at + 8) (sym p.passes.ensures ∙ r.before.if1.false) in
-    let room : l.loop.at + 8 ≤ walk_limit file = omega (arith, l.before.smaller.ensures.0, within) in
-    let none : be 4 file l.loop.at ≡ 0 = sym r.read_u32.ensures ∙ c.before.before.if2.false in
-    let none' : be 4 file (l.loop.at + 4) ≡ 0 = sym c.before.read-u322.ensures ∙ c.if3.false in
-    four_passed file s.args.count s.args.start l.loop.left l.loop.at l.loop.invariant t.loop-test.true room none none'
+    let file = c.args.file.now in
+    let within = ltb-false c.smaller-limit.result (c.loop-left.at + 8) (sym c.passes.ensures ∙ c.if-passes.false) in
+    let room : c.loop-left.at + 8 ≤ walk_limit file = omega (arith, c.smaller-limit.ensures.0, within) in
+    let none : be 4 file c.loop-left.at ≡ 0 = sym c.read_u32.ensures ∙ c.if-read_u32-ne0.false in
+    let none' : be 4 file (c.loop-left.at + 4) ≡ 0 = sym c.read_u32-in-loop-left.ensures ∙ c.if-read_u32-ne0-2.false in
+    four_passed file c.args.count c.args.start c.loop-left.left c.loop-left.at c.loop-left.invariant c.loop-left-test.true room none none'
 
-returns_4 : tie.Need-returns-4 invariant_loop decreases_loop
-returns_4 c = c.before.loop.invariant
+returns_4 : tie.Need-returns invariant_loop decreases_loop
+returns_4 c = c.loop-left.invariant
 
 pub pass_empty_spec : {M : Type 1} → statement M
 pass_empty_spec =

@@ -8,9 +8,8 @@ use Rattle.index_put.proofs.put_trailer.Tie as tie
 
 returns : tie.Need-returns
 returns c =
-    let s = c.before.before.before.before.before.before.before.before.before.before.before.before.before in
-    let a = s.args in
-    let distance = s.requires.0 in
+    let a = c.args in
+    let distance = c.requires.0 in
     cc (put_fields_lem a.place (built_trailer a.entries a.total) a.buffer.now (omega arith) (search rules))
 
 pub put_trailer_spec : {M : Type 1} → statement M

@@ -20,13 +20,13 @@ decreases_loop id-length id some₀ i₀ some i = 16 - i
 
 loop_again : tie.Need-loop-i-preserved invariant_loop decreases_loop
 loop_again c =
-    (omega arith, rw c.padding-some.ensures (c.loop-i.invariant.1 ∙ padding_step c.args.id c.args.id-length c.loop-i.i c.loop-i.some (omega (arith, c.well_formed))))
+    (omega arith, rw c.padding-some.ensures (c.loop-i.invariant.1 ∙ padding_step c.args.id c.args.id_length c.loop-i.i c.loop-i.some (omega (arith, c.well_formed))))
 
 returns : tie.Need-returns invariant_loop decreases_loop
 returns c =
-    rw (c.loop-i.invariant.1, padding_last c.args.id c.args.id-length c.loop-i.i c.loop-i.some (omega (arith, c.well_formed)))
+    rw (c.loop-i.invariant.1, padding_last c.args.id c.args.id_length c.loop-i.i c.loop-i.some (omega (arith, c.well_formed)))
 
 pub padding_wrong_spec : {M : Type 1} → statement M
 padding_wrong_spec =
     tie.close
-    (tie.spec invariant_loop decreases_loop (λ c. (omega arith, padding_first c.args.id c.args.id-length)) (search rules) (search rules) (search rules) (search rules) loop_again returns)
+    (tie.spec invariant_loop decreases_loop (λ c. (omega arith, padding_first c.args.id c.args.id_length)) (search rules) (search rules) (search rules) (search rules) loop_again returns)

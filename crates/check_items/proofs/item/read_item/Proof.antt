@@ -5,13 +5,13 @@ use Rattle.base_format.specs.Operation.{item_at}
 use Rattle.check_items.proofs.item.read_item.Statement.{statement}
 use Rattle.check_items.proofs.item.read_item.Tie as tie
 
-returns : tie.Need-returns
+returns : tie.Need-returns-then-header-eq1
 unfolding item_at
-returns c = simp (eq-eqb _ _ c.before.if1.true) c.read-record.ensures
+returns c = simp (eq-eqb _ _ c.if-header-eq1.true) c.read_record.ensures
 
-returns_2 : tie.Need-returns-2
+returns_2 : tie.Need-returns
 unfolding item_at
-returns_2 c = simp (ne_eqb _ _ c.before.if1.false) c.read-operation.ensures
+returns_2 c = simp (ne_eqb _ _ c.if-header-eq1.false) c.read_operation.ensures
 
 pub read_item_spec : {M : Type 1} → statement M
 read_item_spec = tie.close (tie.spec (search rules) returns (search rules) returns_2)

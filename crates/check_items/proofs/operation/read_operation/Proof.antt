@@ -30,56 +30,53 @@ module _ (version : ℕ) (file : List ℕ) (at width : ℕ) (item : Decoded) (w 
   operation_is = rw (← w) (ap operation_of e ∙ law.operation-at width file at (rw w (width_range version).1))
 
 -- the file and the place that are read
-abbrev bytes_of : tie.After-decode-operation → List ℕ
-bytes_of c = c.before.before.before.before.before.args.file.now
+abbrev bytes_of : tie.After-decode_operation-item → List ℕ
+bytes_of c = c.args.file.now
 
-abbrev place : tie.After-decode-operation → ℕ
-place c = c.before.before.before.before.before.args.at
+abbrev place : tie.After-decode_operation-item → ℕ
+place c = c.args.at
 
-given : (c : tie.After-decode-operation) → c.decode-operation.result ≡ decoded_operation c.before.before.address-width.result (part (bytes_of c) (place c) 16)
-given c = c.decode-operation.ensures.0 ∙ ap (decoded_operation c.before.before.address-width.result) c.before.item-bytes.ensures
+given : (c : tie.After-decode_operation-item) → c.decode_operation-item.result ≡ decoded_operation c.address_width-width.result (part (bytes_of c) (place c) 16)
+given c = c.decode_operation-item.ensures.0 ∙ ap (decoded_operation c.address_width-width.result) c.item_bytes.ensures
 
-opcode_read : (c : tie.After-decode-operation) → c.decode-operation.result.opcode ≡ byte (bytes_of c) (place c)
-opcode_read c = opcode_is _ (bytes_of c) (place c) _ c.decode-operation.result c.before.before.address-width.ensures.0 (given c)
+opcode_read : (c : tie.After-decode_operation-item) → c.decode_operation-item.result.opcode ≡ byte (bytes_of c) (place c)
+opcode_read c = opcode_is _ (bytes_of c) (place c) _ c.decode_operation-item.result c.address_width-width.ensures.0 (given c)
 
 -- where the opcode is one of the sheet, its test and the size are the definition's
-known_opcode : (c : tie.After-decode-operation) → c.decode-operation.result.opcode ≤ 2 → ltb 2 (byte (bytes_of c) (place c)) ≡ false
+known_opcode : (c : tie.After-decode_operation-item) → c.decode_operation-item.result.opcode ≤ 2 → ltb 2 (byte (bytes_of c) (place c)) ≡ false
 known_opcode c h = le-ltb 2 (byte (bytes_of c) (place c)) (rw (← (opcode_read c)) h)
 
-size_read : (c : tie.After-decode-operation) → c.decode-operation.result.opcode ≤ 2
-    → c.decode-operation.result.size ≡ size_of (address_width c.before.before.before.before.before.args.header.version) (byte (bytes_of c) (place c))
-size_read c h = size_is _ (bytes_of c) (place c) _ c.decode-operation.result c.before.before.address-width.ensures.0 (given c) h
+size_read : (c : tie.After-decode_operation-item) → c.decode_operation-item.result.opcode ≤ 2
+    → c.decode_operation-item.result.size ≡ size_of (address_width c.args.header.version) (byte (bytes_of c) (place c))
+size_read c h = size_is _ (bytes_of c) (place c) _ c.decode_operation-item.result c.address_width-width.ensures.0 (given c) h
 
-returns_2 : tie.Need-returns-2
+returns_2 : tie.Need-returns-then-item-gt2
 unfolding operation_at
 returns_2 c =
     let item = c.before.before in
-    simp (lt-leb _ _ item.before.before.before.if1.false, ← (opcode_read item), lt-ltb _ _ c.if2.true)
+    simp (lt-leb _ _ item.if-limit-at.false, ← (opcode_read item), lt-ltb _ _ c.if-item-gt2.true)
 
-returns_3 : tie.Need-returns-3
+returns_3 : tie.Need-returns-then-limit-at-2
 unfolding operation_at
 returns_3 c =
     let item = c.before.before.before in
-    let a = item.before.before.before.before.before.args in
-    let past = lt-ltb a.limit (a.at + item.decode-operation.result.size) (omega arith) in
-    simp (lt-leb _ _ item.before.before.before.if1.false, known_opcode item (omega arith), ← (size_read item (omega arith)), past)
+    let a = item.args in
+    let past = lt-ltb a.limit (a.at + item.decode_operation-item.result.size) (omega arith) in
+    simp (lt-leb _ _ item.if-limit-at.false, known_opcode item (omega arith), ← (size_read item (omega arith)), past)
 
-returns_4 : tie.Need-returns-4
+returns_4 : tie.Need-returns
 unfolding operation_at
 returns_4 c =
-    let target = c.before in
-    let operation = target.before.before in
-    let item = operation.before.before.before.before in
-    let width = item.before.before in
-    let a = width.before.before.before.args in
-    let whole = le-ltb a.limit (a.at + item.decode-operation.result.size) (omega arith) in
-    let fields = operation.operation-of.ensures ∙ operation_is a.header.version (bytes_of item) a.at _ item.decode-operation.result width.address-width.ensures.0 (given item) in
-    rw (c.allow.ensures, target.find-target.ensures, target.before.target-number.ensures)
-    (simp (lt-leb _ _ width.before.if1.false, known_opcode item (omega arith), ← (size_read item (omega arith)), whole, ← fields, allowed_at_lem))
+    let item = c.before.before.before.before.before.before.before in
+    let a = item.args in
+    let whole = le-ltb a.limit (a.at + item.decode_operation-item.result.size) (omega arith) in
+    let fields = c.operation_of-operation.ensures ∙ operation_is a.header.version (bytes_of item) a.at _ item.decode_operation-item.result item.address_width-width.ensures.0 (given item) in
+    rw (c.allow.ensures, c.find_target-target.ensures, c.target_number.ensures)
+    (simp (lt-leb _ _ item.if-limit-at.false, known_opcode item (omega arith), ← (size_read item (omega arith)), whole, ← fields, allowed_at_lem))
 
 pub read_operation_spec : {M : Type 1} → statement M
 unfolding operation_at
 read_operation_spec =
     tie.close
-    (tie.spec (λ c. simp (le-leb _ _ c.if1.true)) (search rules) (search rules) (search rules) returns_2 (search rules) returns_3 (search rules) (search rules) (search rules)
+    (tie.spec (λ c. simp (le-leb _ _ c.if-limit-at.true)) (search rules) (search rules) (search rules) returns_2 (search rules) returns_3 (search rules) (search rules) (search rules)
     (search rules) (search rules) returns_4)

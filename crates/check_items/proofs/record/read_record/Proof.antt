@@ -16,36 +16,32 @@ use Rattle.check_items.proofs.record.read_record.Statement.{statement}
 use Rattle.check_items.proofs.record.read_record.Tie as tie
 
 -- a record has 5 bytes
-five : (c : tie.After-decode-record) → c.decode-record.result.size ≡ 5
+five : (c : tie.After-decode_record-item) → c.decode_record-item.result.size ≡ 5
 unfolding decoded_record
-five c = ap (λ (d : Decoded). d.size) c.decode-record.ensures
+five c = ap (λ (d : Decoded). d.size) c.decode_record-item.ensures
 
-returns : tie.Need-returns
+returns : tie.Need-returns-then-passes
 unfolding record_at
 returns c =
     let item = c.before.before in
-    let a = item.before.before.before.args in
-    let cut : ltb a.limit (a.at + 5) ≡ true = rw (← (five item)) (sym c.before.passes.ensures ∙ c.if1.true) in
+    let a = item.args in
+    let cut : ltb a.limit (a.at + 5) ≡ true = rw (← (five item)) (sym c.passes.ensures ∙ c.if-passes.true) in
     rw cut
 
-add_allow : tie.Need-overflow-add-allow
+add_allow : tie.Need-overflow_add-at
 add_allow c =
-    let whole = c.before.before.before in
-    let a = whole.before.before.before.before.before.args in
-    omega (arith, ltb-false a.limit _ (sym whole.before.passes.ensures ∙ whole.if1.false))
+    let a = c.args in
+    omega (arith, ltb-false a.limit _ (sym c.passes.ensures ∙ c.if-passes.false))
 
-returns_2 : tie.Need-returns-2
+returns_2 : tie.Need-returns
 unfolding record_at
 returns_2 c =
-    let target = c.before in
-    let operation = target.before.before in
-    let whole = operation.before in
-    let item = whole.before.before in
-    let a = item.before.before.before.args in
+    let item = c.before.before.before.before.before.before in
+    let a = item.args in
     let file = a.file.now in
-    let cut : ltb a.limit (a.at + 5) ≡ false = rw (← (five item)) (sym whole.before.passes.ensures ∙ whole.if1.false) in
-    let numbers = operation.operation-of.ensures ∙ ap operation_of (item.decode-record.ensures ∙ ap decoded_record item.before.item-bytes.ensures) ∙ record_at_lem file a.at 16 (omega arith) in
-    rw (c.allow.ensures, target.find-target.ensures, target.before.target-number.ensures)
+    let cut : ltb a.limit (a.at + 5) ≡ false = rw (← (five item)) (sym c.passes.ensures ∙ c.if-passes.false) in
+    let numbers = c.operation_of-operation.ensures ∙ ap operation_of (item.decode_record-item.ensures ∙ ap decoded_record item.item_bytes.ensures) ∙ record_at_lem file a.at 16 (omega arith) in
+    rw (c.allow.ensures, c.find_target-target.ensures, c.target_number.ensures)
     (simp (cut, five item, numbers, allowed_at_lem))
 
 pub read_record_spec : {M : Type 1} → statement M

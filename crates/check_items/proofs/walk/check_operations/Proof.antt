@@ -8,36 +8,31 @@ use Rattle.check_items.proofs.Steps.{walk_step_lem, walk_end}
 use Rattle.check_items.proofs.walk.check_operations.Statement.{statement}
 use Rattle.check_items.proofs.walk.check_operations.Tie as tie
 
-abbrev invariant_loop : tie.invariant-loop
+abbrev invariant_loop : tie.invariant-loop-left
 invariant_loop file header cards limit count start at₀ left₀ seen₀ at left seen =
     walked (setting_of file header cards) file limit count start ≡ walked_with seen (setting_of file header cards) file limit left at
 
-abbrev decreases_loop : tie.decreases-loop
+abbrev decreases_loop : tie.decreases-loop-left
 decreases_loop file header cards limit count start at₀ left₀ seen₀ at left seen = left
 
-loop_holds : tie.Need-loop-init invariant_loop decreases_loop
+loop_holds : tie.Need-loop-left-init invariant_loop decreases_loop
 loop_holds c = refl
 
-returns : tie.Need-returns invariant_loop decreases_loop
+returns : tie.Need-returns-in-Refused invariant_loop decreases_loop
 returns c =
-    let step = c.before.before.before in
-    let l = step.before.before in
-    let a = l.before.before.args in
-    rw (l.loop.invariant, walk_step_lem l.loop.seen (setting_of a.file.now a.header a.cards) a.file.now a.limit l.loop.left l.loop.at (omega arith), ← step.step.ensures, c.before.refusal.given.1)
+    let a = c.args in
+    rw (c.loop-left.invariant, walk_step_lem c.loop-left.seen (setting_of a.file.now a.header a.cards) a.file.now a.limit c.loop-left.left c.loop-left.at (omega arith), ← c.step.ensures, c.in-Refused.is)
 
-loop_again : tie.Need-loop-preserved invariant_loop decreases_loop
+loop_again : tie.Need-loop-left-preserved invariant_loop decreases_loop
 loop_again c =
-    let step = c.before.before.before in
-    let l = step.before.before in
-    let a = l.before.before.args in
-    rw (l.loop.invariant, walk_step_lem l.loop.seen (setting_of a.file.now a.header a.cards) a.file.now a.limit l.loop.left l.loop.at (omega arith), ← step.step.ensures, c.before.place.given.1)
+    let a = c.args in
+    rw (c.loop-left.invariant, walk_step_lem c.loop-left.seen (setting_of a.file.now a.header a.cards) a.file.now a.limit c.loop-left.left c.loop-left.at (omega arith), ← c.step.ensures, c.in-End.is)
 
-returns_2 : tie.Need-returns-2 invariant_loop decreases_loop
+returns_2 : tie.Need-returns invariant_loop decreases_loop
 returns_2 c =
-    let l = c.before in
-    let a = l.before.before.args in
-    let none : l.loop.left ≡ 0 = omega arith in
-    rw (l.loop.invariant, none, walk_end l.loop.seen (setting_of a.file.now a.header a.cards) a.file.now a.limit l.loop.at)
+    let a = c.args in
+    let none : c.loop-left.left ≡ 0 = omega arith in
+    rw (c.loop-left.invariant, none, walk_end c.loop-left.seen (setting_of a.file.now a.header a.cards) a.file.now a.limit c.loop-left.at)
 
 pub check_operations_spec : {M : Type 1} → statement M
 check_operations_spec = tie.close (tie.spec invariant_loop decreases_loop loop_holds (search rules) (search rules) (search rules) returns (search rules) (search rules) loop_again returns_2)

@@ -3,8 +3,8 @@ use borrow.Author.Rules.{rules}
 use Rattle.check_items.proofs.walk.si22_seen.Statement.{statement}
 use Rattle.check_items.proofs.walk.si22_seen.Tie as tie
 
-returns_2 : tie.Need-returns-2
-returns_2 c = simp (c.before.if1.false, c.target-number.ensures)
+returns_2 : tie.Need-returns
+returns_2 c = simp (c.if-seen.false, c.target_number.ensures)
 
 pub si22_seen_spec : {M : Type 1} → statement M
 si22_seen_spec = tie.close (tie.spec (λ c. search rules) (search rules) returns_2)

@@ -8,23 +8,23 @@ use native.Mathlib.Omega.{arith}
 use Rattle.check_tables.proofs.rules.counts_wrong.Statement.{statement}
 use Rattle.check_tables.proofs.rules.counts_wrong.Tie as tie
 
-add_behind : tie.Need-overflow-add-behind
-add_behind c = omega (arith, header_small c.before.before.before.before.before.before.before.before.before.before.args.header.version, c.before.header-size.ensures)
+add_behind : tie.Need-overflow_add-behind
+add_behind c = omega (arith, header_small c.args.header.version, c.header_size.ensures)
 
-returns_5 : tie.Need-returns-5
+returns_5 : tie.Need-returns
 unfolding counts_wrong
 returns_5 c =
     rw (
-      ne_eqb _ _ c.before.before.before.before.before.before.before.before.before.if1.false,
-      le-ltb _ _ c.before.before.before.before.before.before.before.if2.false,
-      eq-eqb _ _ c.before.before.before.before.before.if3.false,
-      le-ltb _ _ c.before.before.before.if4.false,
-      ← c.before.before.header-size.ensures,
+      ne_eqb _ _ c.if-header-eq0.false,
+      le-ltb _ _ c.if-header-gt-FILE_LIMIT.false,
+      eq-eqb _ _ c.if-header-length.false,
+      le-ltb _ _ c.if-header-gt65536.false,
+      ← c.header_size.ensures,
     )
 
 pub counts_wrong_spec : {M : Type 1} → statement M
 unfolding counts_wrong
 counts_wrong_spec =
     tie.close
-    (tie.spec (λ c. simp (eq-eqb _ _ c.if1.true)) (λ c. simp (lt-ltb _ _ c.if2.true, or-true)) (search rules) (λ c. simp (ne_eqb _ _ c.if3.true, or-true))
-    (λ c. simp (lt-ltb _ _ c.if4.true, or-true)) (search rules) (search rules) (search rules) add_behind (search rules) returns_5)
+    (tie.spec (λ c. simp (eq-eqb _ _ c.if-header-eq0.true)) (λ c. simp (lt-ltb _ _ c.if-header-gt-FILE_LIMIT.true, or-true)) (search rules) (λ c. simp (ne_eqb _ _ c.if-header-length.true, or-true))
+    (λ c. simp (lt-ltb _ _ c.if-header-gt65536.true, or-true)) (search rules) (search rules) (search rules) add_behind (search rules) returns_5)

@@ -10,5 +10,5 @@ pub sections_wrong_spec : {M : Type 1} → statement M
 unfolding sections_wrong
 sections_wrong_spec =
     tie.close
-    (tie.spec (search rules) (λ c. simp (ne_eqb _ _ c.if1.true)) (search rules) (λ c. simp (lt-ltb _ _ c.if2.true, or-true))
-    (λ c. rw (eq-eqb _ _ c.before.before.before.before.if1.false, le-ltb _ _ c.before.if2.false)))
+    (tie.spec (search rules) (λ c. simp (ne_eqb _ _ c.if-header-end.true)) (search rules) (λ c. simp (lt-ltb _ _ c.if-header.true, or-true))
+    (λ c. rw (eq-eqb _ _ c.if-header-end.false, le-ltb _ _ c.if-header.false)))
