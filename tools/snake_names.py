@@ -207,10 +207,10 @@ def main():
         if meet:
             trouble.append((p, ' '.join(sorted(meet)), 'is a name of another module here'))
         new = turn_names(t, names, p, '--', fields)
-        # A name behind an own module, as `Checked.bind-then`.
-        heads = {m.group(1).rsplit('.', 1)[-1] for m in USE.finditer(t) if m.group(2) is None and m.group(1) in own}
-        for head in heads:
-            new = re.sub(rf'(?<![^\s(){{}};,@«»]){head}\.({NAME})', lambda m: f'{head}.{snake(m[1])}' if turns(m[1]) and m[1] in everywhere else m[0], new)
+        # A name behind an own module, as `Checked.bind-then`, or behind what the module is called here.
+        for m in re.finditer(r'(?m)^(?:pub )?use (Rattle\.\S+?)(?: as (\S+))?$', t):
+            head, known = m.group(2) or m.group(1).rsplit('.', 1)[-1], exports.get(m.group(1), ())
+            new = re.sub(rf'(?<![^\s(){{}};,@«»]){re.escape(head)}\.({NAME})', lambda w: f'{head}.{snake(w[1])}' if w[1] in known and turns(w[1]) else w[0], new)
         if new != t or p in changed:
             changed[p] = new
     for p, t in sources.items():

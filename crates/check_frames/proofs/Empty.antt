@@ -38,8 +38,8 @@ skip setting file (suc n) at seen h = go (eqb n 0 || ltb (length file) (at + 2) 
     go : (b : Bool) → (eqb n 0 || ltb (length file) (at + 2) || not (eqb (be 2 file at) 0)) ≡ b → (0 < n → Skipped setting file n (at + 2) seen) → Skipped setting file (suc n) at seen
     go true e rest = record { some = rw e (omega arith); fewer = rw e (omega arith); decides = rw e }
     go false e rest =
-        let there = checks.or-false (eqb n 0 || ltb (length file) (at + 2)) _ e in
-        let both = checks.or-false (eqb n 0) (ltb (length file) (at + 2)) there.0 in
+        let there = checks.or_false (eqb n 0 || ltb (length file) (at + 2)) _ e in
+        let both = checks.or_false (eqb n 0) (ltb (length file) (at + 2)) there.0 in
         let none : be 2 file at ≡ 0 = eqb-true _ _ (not-false _ there.1) in
         let next = rest (checks.positive n both.0) in
         record { some = rw e next.some; fewer = rw e (omega (arith, next.fewer)); decides = rw e (empty_step setting file n at seen both.1 none ∙ next.decides) }

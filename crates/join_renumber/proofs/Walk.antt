@@ -95,7 +95,7 @@ module _ (before shift : ℕ) (file : List ℕ) where
       let next : at + 2 + n * 2 ≡ at + suc n * 2 = omega arith in
       frames_step count at buffer (omega arith) first.0
       ∙ (λ i. frames_renumbered before shift file (count - 1) (items_walked 3 file (first.1 i) (at + 2)) (items_renumbered before shift file (first.1 i) (at + 2) buffer))
-      ∙ (λ i. frames_renumbered before shift file (count - 1) (Walked.items-none 3 file (at + 2) i) (items_none (at + 2) buffer i))
+      ∙ (λ i. frames_renumbered before shift file (count - 1) (Walked.items_none 3 file (at + 2) i) (items_none (at + 2) buffer i))
       ∙ frames_empty n (count - 1) (at + 2) buffer (omega arith) (rest_empty file n at empty)
       ∙ (λ i. frames_renumbered before shift file (left i) (next i) buffer)
 

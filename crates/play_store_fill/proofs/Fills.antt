@@ -40,18 +40,18 @@ module _ (file : List ℕ) (version from made : ℕ) where
     pasted i = front.pasted records run i
 
     pub pasted-long : (i : ℕ) → i ≤ n → length (pasted i) ≡ length run
-    pasted-long i few = front.pasted-long records run fits i (rw (records_long file version n (fill_place from made)) few)
+    pasted-long i few = front.pasted_long records run fits i (rw (records_long file version n (fill_place from made)) few)
 
     pub pasted-next : (i : ℕ) → i < n → set (pasted i) i (record_of (placed (i + 1))) ≡ pasted (i + 1)
     pasted-next i less =
-        front.pasted-next records run fits i (record_of (placed (i + 1))) (rw (records_long file version n (fill_place from made)) less)
+        front.pasted_next records run fits i (record_of (placed (i + 1))) (rw (records_long file version n (fill_place from made)) less)
         (record_at_lem file version n (fill_place from made) i (record_of (placed (i + 1))) less ∙ ap record_of (placed_next i))
 
     pub stored_is : pasted n ≡ fills_stored file version from made count run
     unfolding fills_stored
-    stored_is = front.pasted-all records run fits n (sym (records_long file version n (fill_place from made)))
+    stored_is = front.pasted_all records run fits n (sym (records_long file version n (fill_place from made)))
 
     -- the run keeps its length
     pub stored-long : length (fills_stored file version from made count run) ≡ length run
     unfolding fills_stored
-    stored-long = front.stored-long records run fits
+    stored-long = front.stored_long records run fits

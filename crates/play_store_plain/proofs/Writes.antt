@@ -82,17 +82,17 @@ module _ (file : List ℕ) (version from count : ℕ) (run : List WriteRecord) w
   pasted i = front.pasted records run i
 
   pub pasted_long : (i : ℕ) → i ≤ n → length (pasted i) ≡ length run
-  pasted_long i few = front.pasted-long records run fits i (rw (writes_long version file n from) few)
+  pasted_long i few = front.pasted_long records run fits i (rw (writes_long version file n from) few)
 
   pub pasted_next : (i : ℕ) → i < n → set (pasted i) i (plain_write version file (from + i * plain_size version)) ≡ pasted (i + 1)
   pasted_next i less =
-      front.pasted-next records run fits i (plain_write version file (from + i * plain_size version)) (rw (writes_long version file n from) less) (write_at_lem version file n from i (plain_write version file (from + i * plain_size version)) less)
+      front.pasted_next records run fits i (plain_write version file (from + i * plain_size version)) (rw (writes_long version file n from) less) (write_at_lem version file n from i (plain_write version file (from + i * plain_size version)) less)
 
   pub stored_is : pasted n ≡ writes_stored file version from count run
   unfolding writes_stored
-  stored_is = front.pasted-all records run fits n (sym (writes_long version file n from))
+  stored_is = front.pasted_all records run fits n (sym (writes_long version file n from))
 
   -- the run keeps its length
   pub stored_long : length (writes_stored file version from count run) ≡ length run
   unfolding writes_stored
-  stored_long = front.stored-long records run fits
+  stored_long = front.stored_long records run fits

@@ -40,18 +40,18 @@ module _ (file : List ℕ) (directory count : ℕ) (run : List SgubPoolEntry) wh
   pasted i = front.pasted entries run i
 
   pub pasted_long : (i : ℕ) → i ≤ n → length (pasted i) ≡ length run
-  pasted_long i few = front.pasted-long entries run fits i (rw (entries_long file directory n 0) few)
+  pasted_long i few = front.pasted_long entries run fits i (rw (entries_long file directory n 0) few)
 
   pub pasted_next : (i : ℕ) → i < n → set (pasted i) i (listed_entry (pool_at file directory i)) ≡ pasted (i + 1)
   pasted_next i less =
-      front.pasted-next entries run fits i (listed_entry (pool_at file directory i)) (rw (entries_long file directory n 0) less)
+      front.pasted_next entries run fits i (listed_entry (pool_at file directory i)) (rw (entries_long file directory n 0) less)
       (entry_at file directory n 0 i (listed_entry (pool_at file directory i)) less ∙ ap (λ (k : ℕ). listed_entry (pool_at file directory k)) (zero-add i))
 
   pub stored_is : pasted n ≡ entries_stored file directory count run
   unfolding entries_stored
-  stored_is = front.pasted-all entries run fits n (sym (entries_long file directory n 0))
+  stored_is = front.pasted_all entries run fits n (sym (entries_long file directory n 0))
 
   -- the run keeps its length
   pub stored_long : length (entries_stored file directory count run) ≡ length run
   unfolding entries_stored
-  stored_long = front.stored-long entries run fits
+  stored_long = front.stored_long entries run fits

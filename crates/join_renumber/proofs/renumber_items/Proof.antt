@@ -47,7 +47,7 @@ loop_again c =
       l.invariant.0
           ∙ items_step a.before a.shift file l.left l.at l.buffer some less
           ∙ ap₂ (λ (n : ℕ) (b : List ℕ). items_renumbered a.before a.shift file (l.left - 1) (l.at + n) b) size (sym puts),
-      l.invariant.1 ∙ Walked.items-step 3 file l.left l.at some less ∙ ap (λ (n : ℕ). items_walked 3 file (l.left - 1) (l.at + n)) size,
+      l.invariant.1 ∙ Walked.items_step 3 file l.left l.at some less ∙ ap (λ (n : ℕ). items_walked 3 file (l.left - 1) (l.at + n)) size,
       ap length puts ∙ item_length a.before a.shift file l.at l.buffer ∙ l.invariant.2,
     )
 
@@ -58,7 +58,7 @@ returns c =
     let a = f.before.before.before.args in
     let past : walk_limit a.file.now ≤ l.at = omega (arith, c.if1.false, f.smaller.ensures.0) in (
       sym (l.invariant.0 ∙ items_still a.before a.shift a.file.now l.left l.at l.buffer past),
-      sym (l.invariant.1 ∙ Walked.items-still 3 a.file.now l.left l.at past),
+      sym (l.invariant.1 ∙ Walked.items_still 3 a.file.now l.left l.at past),
     )
 
 returns_2 : tie.Need-returns-2 invariant_loop decreases_loop
@@ -68,7 +68,7 @@ returns_2 c =
     let file = a.file.now in
     let none : l.left ≡ 0 = omega (arith, c.loop-test.false) in (
       sym (l.invariant.0 ∙ ap (λ (n : ℕ). items_renumbered a.before a.shift file n l.at l.buffer) none ∙ items_none a.before a.shift file l.at l.buffer),
-      sym (l.invariant.1 ∙ ap (λ (n : ℕ). items_walked 3 file n l.at) none ∙ Walked.items-none 3 file l.at),
+      sym (l.invariant.1 ∙ ap (λ (n : ℕ). items_walked 3 file n l.at) none ∙ Walked.items_none 3 file l.at),
     )
 
 pub renumber_items_spec : {M : Type 1} → statement M

@@ -9,35 +9,29 @@ use borrow.Author.Rules.{rules}
 use Rattle.play_fast_empty.proofs.empty_next.Statement.{statement}
 use Rattle.play_fast_empty.proofs.empty_next.Tie as tie
 
-returns_2 : tie.Need-returns-2
+returns_2 : tie.Need-returns-then-passes
 unfolding empty_next
 returns_2 c =
-    let t = c.before.before.before in
-    simp (eq-eqb _ _ t.if1.false, ← c.before.before.passes.ensures, c.before.if2.true, ← c.no-empty2.ensures)
+    simp (eq-eqb _ _ c.if-next-ne-FRAME.false, ← c.passes.ensures, c.if-passes.true, ← c.no_empty-then-passes.ensures)
 
-returns_3 : tie.Need-returns-3
+returns_3 : tie.Need-returns-then-read_u16-ne0
 unfolding empty_next
 returns_3 c =
-    let s = c.before.before.before in
-    let t = s.before.before in
-    simp (eq-eqb _ _ t.if1.false, ← s.before.passes.ensures, s.if2.false, ← c.before.before.read-u16.ensures, ne_eqb _ _ c.before.if3.true, ← c.no-empty3.ensures)
+    simp (eq-eqb _ _ c.if-next-ne-FRAME.false, ← c.passes.ensures, c.if-passes.false, ← c.read_u16.ensures, ne_eqb _ _ c.if-read_u16-ne0.true, ← c.no_empty-then-read_u16-ne0.ensures)
 
-add_between_at : tie.Need-overflow-add-between-at
+add_between_at : tie.Need-overflow_add-place
 add_between_at c =
-    let a = c.before.before.before.before.before.before.before.args in
-    let s = c.before.before in
-    omega (arith, ltb-false (length a.file.now) (a.next.place + 2) (sym s.before.passes.ensures ∙ s.if2.false))
+    let a = c.args in
+    omega (arith, ltb-false (length a.file.now) (a.next.place + 2) (sym c.passes.ensures ∙ c.if-passes.false))
 
-returns_4 : tie.Need-returns-4
+returns_4 : tie.Need-returns
 unfolding empty_next
 returns_4 c =
-    let s = c.before.before.before.before in
-    let t = s.before.before in
-    simp (eq-eqb _ _ t.if1.false, ← s.before.passes.ensures, s.if2.false, ← c.before.before.before.read-u16.ensures, eq-eqb _ _ c.before.before.if3.false, ← c.between-at.ensures)
+    simp (eq-eqb _ _ c.if-next-ne-FRAME.false, ← c.passes.ensures, c.if-passes.false, ← c.read_u16.ensures, eq-eqb _ _ c.if-read_u16-ne0.false, ← c.between_at.ensures)
 
 pub empty_next_spec : {M : Type 1} → statement M
 unfolding empty_next
 empty_next_spec =
     tie.close
-    (tie.spec (search rules) (λ c. simp (ne_eqb _ _ c.before.if1.true, ← c.no-empty.ensures)) (search rules) (search rules) returns_2 (search rules) (search rules) returns_3
+    (tie.spec (search rules) (λ c. simp (ne_eqb _ _ c.if-next-ne-FRAME.true, ← c.no_empty.ensures)) (search rules) (search rules) returns_2 (search rules) (search rules) returns_3
     add_between_at (search rules) (search rules) returns_4)

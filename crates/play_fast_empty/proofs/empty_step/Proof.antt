@@ -5,25 +5,23 @@ use borrow.Author.Rules.{rules}
 use Rattle.play_fast_empty.proofs.empty_step.Statement.{statement}
 use Rattle.play_fast_empty.proofs.empty_step.Tie as tie
 
-returns : tie.Need-returns
+returns : tie.Need-returns-then-progress-ne-BETWEEN
 unfolding empty_of
-returns c = simp (ne_eqb _ _ c.before.if1.true, ← c.no-empty.ensures)
+returns c = simp (ne_eqb _ _ c.if-progress-ne-BETWEEN.true, ← c.no_empty.ensures)
 
-returns_2 : tie.Need-returns-2
+returns_2 : tie.Need-returns-then-progress
 unfolding empty_of
-returns_2 c = simp (eq-eqb _ _ c.before.before.if1.false, c.before.if2.true, ← c.no-empty2.ensures)
+returns_2 c = simp (eq-eqb _ _ c.if-progress-ne-BETWEEN.false, c.if-progress.true, ← c.no_empty-then-progress.ensures)
 
-returns_3 : tie.Need-returns-3
+returns_3 : tie.Need-returns-then-foreign
 unfolding empty_of
 returns_3 c =
-    let t = c.before.before.before in
-    simp (eq-eqb _ _ t.before.if1.false, t.if2.false, ← c.before.before.foreign.ensures, c.before.if3.true, ← c.no-empty3.ensures)
+    simp (eq-eqb _ _ c.if-progress-ne-BETWEEN.false, c.if-progress.false, ← c.foreign.ensures, c.if-foreign.true, ← c.no_empty-then-foreign.ensures)
 
-returns_4 : tie.Need-returns-4
+returns_4 : tie.Need-returns
 unfolding empty_of
 returns_4 c =
-    let t = c.before.before.before.before in
-    simp (eq-eqb _ _ t.before.if1.false, t.if2.false, ← c.before.before.before.foreign.ensures, c.before.before.if3.false, ← c.before.next-part.ensures.0, ← c.empty-next.ensures)
+    simp (eq-eqb _ _ c.if-progress-ne-BETWEEN.false, c.if-progress.false, ← c.foreign.ensures, c.if-foreign.false, ← c.next_part.ensures.0, ← c.empty_next.ensures)
 
 pub empty_step_spec : {M : Type 1} → statement M
 empty_step_spec = tie.close (tie.spec (search rules) returns (search rules) returns_2 (search rules) (search rules) returns_3 (search rules) (search rules) returns_4)

@@ -4,7 +4,7 @@ use Rattle.play_fast_fill_records.proofs.following.Statement.{statement}
 use Rattle.play_fast_fill_records.proofs.following.Tie as tie
 
 returns : tie.Need-returns
-returns c = rw c.before.wrapping-add-u32.ensures
+returns c = rw c.wrapping_add_u32.ensures
 
 pub following_spec : {M : Type 1} → statement M
 following_spec = tie.close (tie.spec (search rules) (search rules) returns)

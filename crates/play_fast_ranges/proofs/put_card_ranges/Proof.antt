@@ -4,14 +4,12 @@ use borrow.Author.Tests.{lt-ltb, le-ltb}
 use Rattle.play_fast_ranges.proofs.put_card_ranges.Statement.{statement}
 use Rattle.play_fast_ranges.proofs.put_card_ranges.Tie as tie
 
-returns : tie.Need-returns
-returns c = (rw (lt-ltb _ _ c.if1.true), rw (lt-ltb _ _ c.if1.true))
+returns : tie.Need-returns-then-slot-gt7
+returns c = (rw (lt-ltb _ _ c.if-slot-gt7.true), rw (lt-ltb _ _ c.if-slot-gt7.true))
 
-returns_2 : tie.Need-returns-2
+returns_2 : tie.Need-returns
 returns_2 c =
-    let t = c.before in
-    let e = t.before.before.before in
-    (rw (le-ltb _ _ e.if1.false, c.put-target.ensures.0, t.card-target.ensures), rw (le-ltb _ _ e.if1.false, c.put-target.ensures.1, t.card-target.ensures))
+    (rw (le-ltb _ _ c.if-slot-gt7.false, c.put_target.ensures.0, c.card_target.ensures), rw (le-ltb _ _ c.if-slot-gt7.false, c.put_target.ensures.1, c.card_target.ensures))
 
 pub put_card_ranges_spec : {M : Type 1} → statement M
 put_card_ranges_spec = tie.close (tie.spec returns (search rules) (search rules) (search rules) (search rules) returns_2)

@@ -4,7 +4,7 @@ use Rattle.play_fast_ranges.proofs.put_target.Statement.{statement}
 use Rattle.play_fast_ranges.proofs.put_target.Tie as tie
 
 returns : tie.Need-returns
-returns c = (rw c.before.before.bulk-start.ensures, rw (c.before.write_top.ensures, c.bulk-end.ensures))
+returns c = (rw c.bulk_start.ensures, rw (c.write_top.ensures, c.bulk_end.ensures))
 
 pub put_target_spec : {M : Type 1} → statement M
 put_target_spec =

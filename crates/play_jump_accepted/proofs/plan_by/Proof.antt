@@ -5,57 +5,46 @@ use Rattle.play_jump_accepted.specs.Told.{jumped_by}
 use Rattle.play_jump_accepted.proofs.plan_by.Statement.{statement}
 use Rattle.play_jump_accepted.proofs.plan_by.Tie as tie
 
-returns : tie.Need-returns
+returns : tie.Need-returns-then-jump_foreign
 unfolding jumped_by
-returns c = rw (c.refused-jump.ensures, ← c.before.before.jump-foreign.ensures, c.before.if1.true)
+returns c = rw (c.refused_jump.ensures, ← c.jump_foreign.ensures, c.if-jump_foreign.true)
 
-returns_2 : tie.Need-returns-2
+returns_2 : tie.Need-returns-then-other_index
 unfolding jumped_by
 returns_2 c =
-    let own = c.before.before.before.before in
-    rw (c.refused-jump2.ensures, ← own.before.jump-foreign.ensures, own.if1.false, ← c.before.before.other-index.ensures, c.before.if2.true)
+    rw (c.refused_jump-then-other_index.ensures, ← c.jump_foreign.ensures, c.if-jump_foreign.false, ← c.other_index.ensures, c.if-other_index.true)
 
-returns_3 : tie.Need-returns-3
+returns_3 : tie.Need-returns-then-frame-eq0
 unfolding jumped_by
 returns_3 c =
-    let indexed = c.before.before in
-    let own = indexed.before.before.before in
-    rw (c.refused-jump3.ensures, ← own.before.jump-foreign.ensures, own.if1.false, ← indexed.before.other-index.ensures, indexed.if2.false, eq-eqb _ _ c.before.if3.true)
+    rw (c.refused_jump-then-frame-eq0.ensures, ← c.jump_foreign.ensures, c.if-jump_foreign.false, ← c.other_index.ensures, c.if-other_index.false, eq-eqb _ _ c.if-frame-eq0.true)
 
-returns_4 : tie.Need-returns-4
+returns_4 : tie.Need-returns-then-header-frame
 unfolding jumped_by
 returns_4 c =
-    let some = c.before.before.before in
-    let indexed = some.before in
-    let own = indexed.before.before.before in
     rw (
-      c.refused-jump4.ensures,
-      ← own.before.jump-foreign.ensures,
-      own.if1.false,
-      ← indexed.before.other-index.ensures,
-      indexed.if2.false,
-      ne_eqb _ _ some.if3.false,
-      lt-ltb _ _ c.before.if4.true,
+      c.refused_jump-then-header-frame.ensures,
+      ← c.jump_foreign.ensures,
+      c.if-jump_foreign.false,
+      ← c.other_index.ensures,
+      c.if-other_index.false,
+      ne_eqb _ _ c.if-frame-eq0.false,
+      lt-ltb _ _ c.if-header-frame.true,
     )
 
-returns_5 : tie.Need-returns-5
+returns_5 : tie.Need-returns
 unfolding jumped_by
 returns_5 c =
-    let place = c.before.before.before in
-    let there = place.before in
-    let some = there.before.before in
-    let indexed = some.before in
-    let own = indexed.before.before.before in
     rw (
-      c.moved.ensures,
-      c.before.before-frame.ensures,
-      place.frame-place.ensures,
-      ← own.before.jump-foreign.ensures,
-      own.if1.false,
-      ← indexed.before.other-index.ensures,
-      indexed.if2.false,
-      ne_eqb _ _ some.if3.false,
-      le-ltb _ _ there.if4.false,
+      c.moved-next.ensures,
+      c.before_frame.ensures,
+      c.frame_place-place.ensures,
+      ← c.jump_foreign.ensures,
+      c.if-jump_foreign.false,
+      ← c.other_index.ensures,
+      c.if-other_index.false,
+      ne_eqb _ _ c.if-frame-eq0.false,
+      le-ltb _ _ c.if-header-frame.false,
     )
 
 pub plan_by_spec : {M : Type 1} → statement M

@@ -5,23 +5,22 @@ use Rattle.play_laws.proofs.Planned.{closing_count_lem}
 use Rattle.play_jump_belongs.proofs.closing_past.Statement.{statement}
 use Rattle.play_jump_belongs.proofs.closing_past.Tie as tie
 
-returns : tie.Need-returns
+returns : tie.Need-returns-in-Between
 unfolding closing_past
-returns c = rw (← c.before.before.part_of.ensures, c.enum_told.given.1)
+returns c = rw (← c.part_of-part.ensures, c.in-Between.is)
 
-returns_2 : tie.Need-returns-2
+returns_2 : tie.Need-returns-in-Opening
 unfolding closing_past
-returns_2 c = rw (← c.before.before.part_of.ensures, c.enum-told2.given.1)
+returns_2 c = rw (← c.part_of-part.ensures, c.in-Opening.is)
 
-returns_3 : tie.Need-returns-3
+returns_3 : tie.Need-returns-in-Frame
 unfolding closing_past
-returns_3 c = rw (← c.before.before.part_of.ensures, c.enum-told3.given.1)
+returns_3 c = rw (← c.part_of-part.ensures, c.in-Frame.is)
 
-returns_4 : tie.Need-returns-4
+returns_4 : tie.Need-returns-in-Closing
 unfolding closing_past
 returns_4 c =
-    let p = c.before.before.before.before in
-    rw (← p.part_of.ensures, c.before.before.enum-told4.given.1, c.before.closing-count.ensures, closing_count_lem p.before.args.state.uses_si22)
+    rw (← c.part_of-part.ensures, c.in-Closing.is, c.closing_count.ensures, closing_count_lem c.args.state.uses_si22)
 
 pub closing_past_spec : {M : Type 1} → statement M
 closing_past_spec = tie.close (tie.spec (search rules) (search rules) (search rules) (search rules) (search rules) (search rules) returns returns_2 returns_3 returns_4)

@@ -6,7 +6,7 @@ use Rattle.play_jump_belongs.proofs.records_differ.Tie as tie
 
 returns : tie.Need-returns
 unfolding records_differ
-returns c = rw (c.before.before.before.same-header.ensures, c.before.before.same-cards.ensures)
+returns c = rw (c.same_header.ensures, c.same_cards.ensures)
 
 pub records_differ_spec : {M : Type 1} → statement M
 records_differ_spec = tie.close (tie.spec (search rules) (search rules) returns)

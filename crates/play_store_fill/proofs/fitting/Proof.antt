@@ -4,10 +4,10 @@ use native.Mathlib.Omega.{arith}
 use Rattle.play_store_fill.proofs.fitting.Statement.{statement}
 use Rattle.play_store_fill.proofs.fitting.Tie as tie
 
-returns : tie.Need-returns
+returns : tie.Need-returns-then-room-count
 returns c = omega arith
 
-returns_2 : tie.Need-returns-2
+returns_2 : tie.Need-returns
 returns_2 c = omega arith
 
 pub fitting_spec : {M : Type 1} → statement M

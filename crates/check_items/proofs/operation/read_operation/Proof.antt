@@ -21,13 +21,13 @@ use Rattle.check_items.proofs.operation.read_operation.Tie as tie
 -- what the reader gave at a place of a file
 module _ (version : ℕ) (file : List ℕ) (at width : ℕ) (item : Decoded) (w : width ≡ address_width version) (e : item ≡ decoded_operation width (part file at 16)) where
   opcode_is : item.opcode ≡ byte file at
-  opcode_is = ap (λ (d : Decoded). d.opcode) e ∙ law.opcode-at width file at
+  opcode_is = ap (λ (d : Decoded). d.opcode) e ∙ law.opcode_at width file at
 
   size_is : item.opcode ≤ 2 → item.size ≡ size_of (address_width version) (byte file at)
-  size_is h = rw (← w) (ap (λ (d : Decoded). d.size) e ∙ law.size-at width file at (rw (← opcode_is) h))
+  size_is h = rw (← w) (ap (λ (d : Decoded). d.size) e ∙ law.size_at width file at (rw (← opcode_is) h))
 
   operation_is : operation_of item ≡ fields_at file (address_width version) at (byte file at)
-  operation_is = rw (← w) (ap operation_of e ∙ law.operation-at width file at (rw w (width_range version).1))
+  operation_is = rw (← w) (ap operation_of e ∙ law.operation_at_lem width file at (rw w (width_range version).1))
 
 -- the file and the place that are read
 abbrev bytes_of : tie.After-decode_operation-item → List ℕ

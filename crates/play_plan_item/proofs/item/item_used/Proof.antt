@@ -4,14 +4,14 @@ use Rattle.base_format.proofs.As25.{as25_bind, as25_then}
 use Rattle.play_plan_item.proofs.item.item_used.Statement.{statement}
 use Rattle.play_plan_item.proofs.item.item_used.Tie as tie
 
-returns : tie.Need-returns
-returns c = simp (as25_bind, ← c.before.before.before.before.before.read-item.ensures, c.before.before.before.operation.given.1, as25_then, ← c.before.use-wrong.ensures, c.if1.true)
+returns : tie.Need-returns-then-use_wrong
+returns c = simp (as25_bind, ← c.read_item.ensures, c.in-Found.is, as25_then, ← c.use_wrong.ensures, c.if-use_wrong.true)
 
-returns_2 : tie.Need-returns-2
-returns_2 c = simp (as25_bind, ← c.before.before.before.before.before.read-item.ensures, c.before.before.before.operation.given.1, as25_then, ← c.before.use-wrong.ensures, c.if1.false)
+returns_2 : tie.Need-returns-else-use_wrong
+returns_2 c = simp (as25_bind, ← c.read_item.ensures, c.in-Found.is, as25_then, ← c.use_wrong.ensures, c.if-use_wrong.false)
 
-returns_3 : tie.Need-returns-3
-returns_3 c = simp (← c.before.before.read-item.ensures, c.enum_told.given.1)
+returns_3 : tie.Need-returns-in-Refused
+returns_3 c = simp (← c.read_item.ensures, c.in-Refused.is)
 
 pub item_used_spec : {M : Type 1} → statement M
 item_used_spec = tie.close (tie.spec (search rules) (search rules) (search rules) returns (search rules) returns_2 returns_3)

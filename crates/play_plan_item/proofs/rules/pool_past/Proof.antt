@@ -6,13 +6,13 @@ use Rattle.base_format.proofs.As25.{as25_refuse}
 use Rattle.play_plan_item.proofs.rules.pool_past.Statement.{statement}
 use Rattle.play_plan_item.proofs.rules.pool_past.Tie as tie
 
-returns : tie.Need-returns
+returns : tie.Need-returns-then-file-directory
 unfolding pool_used
-returns c = simp (lt-ltb _ _ c.if1.true)
+returns c = simp (lt-ltb _ _ c.if-file-directory.true)
 
-returns_2 : tie.Need-returns-2
+returns_2 : tie.Need-returns
 unfolding pool_used
-returns_2 c = simp (le-ltb _ _ c.before.before.before.if1.false, as25_refuse, c.before.before.read-pool.ensures)
+returns_2 c = simp (le-ltb _ _ c.if-file-directory.false, as25_refuse, c.read_pool-pool.ensures)
 
 pub pool_past_spec : {M : Type 1} → statement M
 pool_past_spec = tie.close (tie.spec (search rules) (search rules) returns (search rules) (search rules) (search rules) (search rules) returns_2)

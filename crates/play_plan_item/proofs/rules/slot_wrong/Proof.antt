@@ -12,41 +12,32 @@ use Rattle.play_plan_item.proofs.Slots.{wrong_step, wrong_end}
 use Rattle.play_plan_item.proofs.rules.slot_wrong.Statement.{statement}
 use Rattle.play_plan_item.proofs.rules.slot_wrong.Tie as tie
 
-abbrev invariant_loop : tie.invariant-loop
+abbrev invariant_loop : tie.invariant-loop-i
 invariant_loop slot table count i₀ i =
     (i ≤ 8) × (slot_wrong (cards_of table) slot ≡ slot_wrong (drop i (take table.count table.cards)) slot)
 
-abbrev decreases_loop : tie.decreases-loop
+abbrev decreases_loop : tie.decreases-loop-i
 decreases_loop slot table count i₀ i = 8 - i
 
-returns : tie.Need-returns invariant_loop decreases_loop
+returns : tie.Need-returns-then-count-i invariant_loop decreases_loop
 returns c =
-    let l = c.before.before in
-    let s = l.before in
-    let t = s.args.t1 in
-    rw (l.loop.invariant.1, wrong_end t.cards t.count l.loop.i s.args.slot (omega (arith, length-take t.count t.cards)))
+    let t = c.args.table in
+    rw (c.loop-i.invariant.1, wrong_end t.cards t.count c.loop-i.i c.args.slot (omega (arith, length-take t.count t.cards)))
 
-returns_2 : tie.Need-returns-2 invariant_loop decreases_loop
+returns_2 : tie.Need-returns-then-card-slot invariant_loop decreases_loop
 returns_2 c =
-    let found = c.before.before.before in
-    let l = found.before.before.before in
-    let s = l.before in
-    let t = s.args.t1 in
-    rw (l.loop.invariant.1, wrong_step t.cards t.count l.loop.i s.args.slot (omega arith) (omega (arith, eight t _ s.well-formed.0)), eq-eqb _ _ c.before.if2.true) c.one-card-wrong.ensures
+    let t = c.args.table in
+    rw (c.loop-i.invariant.1, wrong_step t.cards t.count c.loop-i.i c.args.slot (omega arith) (omega (arith, eight t _ c.well_formed.0)), eq-eqb _ _ c.if-card-slot.true) c.one_card_wrong.ensures
 
-loop_again : tie.Need-loop-preserved invariant_loop decreases_loop
+loop_again : tie.Need-loop-i-preserved invariant_loop decreases_loop
 loop_again c =
-    let l = c.before.before.before.before.before in
-    let s = l.before in
-    let t = s.args.t1 in
-    (omega arith, rw (l.loop.invariant.1, wrong_step t.cards t.count l.loop.i s.args.slot (omega arith) (omega (arith, eight t _ s.well-formed.0)), ne_eqb _ _ c.if2.false))
+    let t = c.args.table in
+    (omega arith, rw (c.loop-i.invariant.1, wrong_step t.cards t.count c.loop-i.i c.args.slot (omega arith) (omega (arith, eight t _ c.well_formed.0)), ne_eqb _ _ c.if-card-slot.false))
 
-returns_3 : tie.Need-returns-3 invariant_loop decreases_loop
+returns_3 : tie.Need-returns invariant_loop decreases_loop
 returns_3 c =
-    let l = c.before in
-    let s = l.before in
-    let t = s.args.t1 in
-    rw (l.loop.invariant.1, wrong_end t.cards t.count l.loop.i s.args.slot (omega (arith, length-take t.count t.cards, eight t _ s.well-formed.0)))
+    let t = c.args.table in
+    rw (c.loop-i.invariant.1, wrong_end t.cards t.count c.loop-i.i c.args.slot (omega (arith, length-take t.count t.cards, eight t _ c.well_formed.0)))
 
 pub slot_wrong_spec : {M : Type 1} → statement M
 slot_wrong_spec =

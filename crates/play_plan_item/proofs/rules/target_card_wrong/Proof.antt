@@ -4,17 +4,17 @@ use borrow.Author.Tests.{le-leb, lt-leb, eq-eqb, ne_eqb}
 use Rattle.play_plan_item.proofs.rules.target_card_wrong.Statement.{statement}
 use Rattle.play_plan_item.proofs.rules.target_card_wrong.Tie as tie
 
-returns : tie.Need-returns
-returns c = simp (ne_eqb _ _ c.if1.true)
+returns : tie.Need-returns-then-version-ne4
+returns c = simp (ne_eqb _ _ c.if-version-ne4.true)
 
-returns_2 : tie.Need-returns-2
-returns_2 c = simp (eq-eqb _ _ c.before.if1.false, lt-leb _ _ c.if2.true)
+returns_2 : tie.Need-returns-then-target-lt3
+returns_2 c = simp (eq-eqb _ _ c.if-version-ne4.false, lt-leb _ _ c.if-target-lt3.true)
 
-returns_3 : tie.Need-returns-3
-returns_3 c = simp (eq-eqb _ _ c.before.before.if1.false, le-leb _ _ c.before.if2.false, lt-leb _ _ c.if3.true)
+returns_3 : tie.Need-returns-then-target-gt10
+returns_3 c = simp (eq-eqb _ _ c.if-version-ne4.false, le-leb _ _ c.if-target-lt3.false, lt-leb _ _ c.if-target-gt10.true)
 
-returns_4 : tie.Need-returns-4
-returns_4 c = simp (eq-eqb _ _ c.before.before.before.before.if1.false, le-leb _ _ c.before.before.before.if2.false, le-leb _ _ c.before.before.if3.false, ← c.before.slot.ensures, ← c.slot-wrong.ensures)
+returns_4 : tie.Need-returns
+returns_4 c = simp (eq-eqb _ _ c.if-version-ne4.false, le-leb _ _ c.if-target-lt3.false, le-leb _ _ c.if-target-gt10.false, ← c.slot.ensures, ← c.slot_wrong.ensures)
 
 pub target_card_wrong_spec : {M : Type 1} → statement M
 target_card_wrong_spec = tie.close (tie.spec returns returns_2 returns_3 (search rules) (search rules) returns_4)
