@@ -14,7 +14,7 @@ import sys
 ROOT = 'crates'
 NAME = r'[^\s(){}.;,@"«»]+'
 USE = re.compile(rf'\buse (Rattle\.[^\s;{{]+?)(?:\.\{{([^}}]*)\}}|(?= as | *;|\s*$))', re.M)
-DECLARED = re.compile(rf'(?m)^(  )?(?:unfoldable |abbrev )?(?:pub )?(?:abbrev |unfoldable )?(?:pub )?({NAME})(?: \{{[^{{}}\n]*\}})* :(?: |$)')
+DECLARED = re.compile(rf'(?m)^((?:  )+)?(?:unfoldable |abbrev )?(?:pub )?(?:abbrev |unfoldable )?(?:pub )?({NAME})(?: \{{[^{{}}\n]*\}})* :(?: |$)')
 LISTED = re.compile(rf'(?m)^(?:unfolding|unfold) ')
 
 # Old name: new name, where the plain one would meet another.
@@ -72,7 +72,7 @@ def declared(text):
             kind = None
         m = DECLARED.match(line)
         if m and not m.group(2).startswith('--'):
-            (fields if kind == 'record' and m.group(1) else names).add(m.group(2))
+            (fields if kind == 'record' and m.group(1) == '  ' else names).add(m.group(2))
     return names, fields
 
 

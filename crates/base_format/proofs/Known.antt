@@ -99,17 +99,17 @@ module _ (known : List (List ℕ)) (bytes : List ℕ) where
 
   -- a wave that was known before
   module _ (other : List ℕ) (before : is_known known other ≡ true) where
-    pub added-keeps-place : place_of (added known bytes) other ≡ place_of known other
+    pub added_keeps_place : place_of (added known bytes) other ≡ place_of known other
     unfolding added
-    added-keeps-place = go (is_known known bytes)
+    added_keeps_place = go (is_known known bytes)
       where
         go : (b : Bool) → place_of (cond b known (known ++ (bytes ∷ []))) other ≡ place_of known other
         go true = refl
         go false = place_kept known (bytes ∷ []) other before
 
-    pub added-keeps : is_known (added known bytes) other ≡ true
+    pub added_keeps : is_known (added known bytes) other ≡ true
     unfolding added
-    added-keeps = go (is_known known bytes)
+    added_keeps = go (is_known known bytes)
       where
         go : (b : Bool) → is_known (cond b known (known ++ (bytes ∷ []))) other ≡ true
         go true = before

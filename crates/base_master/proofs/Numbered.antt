@@ -16,7 +16,7 @@ use Rattle.base_master.specs.Places.{record_of, records_at, behind_frame, wave_a
 use Rattle.base_master.specs.Result.{piece_count, piece_bytes, frame_bytes}
 use Rattle.base_master.specs.Uses.{uses_at, all_uses, Marked, MarkedFrames, numbered, pieces_by, frame_by, frames_by}
 use Rattle.base_master.proofs.Pieces.{wave_next, single_next}
-use Rattle.base_master.proofs.Result.{bytes-none, bytes-wave, bytes-single, frames-none, frames-next, write_size, copy_size}
+use Rattle.base_master.proofs.Result.{bytes_none, bytes_wave, bytes_single, frames_none, frames_next, write_size, copy_size}
 use Rattle.base_master.proofs.Uses.{uses_wave, uses_single, all_uses_next, wave_marked, behind_wave, behind_single, frame_marked, frames_marked}
 
 module _ (numbers : List ℕ) (base : ℕ) (file : List ℕ) where
@@ -77,7 +77,7 @@ module _ (waves : List (List ℕ)) (numbers : List ℕ) (base : ℕ) (file spots
       → pieces_by numbers base used file count at ≡ piece_bytes base waves file count at
 
   one_more : (fuel : ℕ) → UpTo fuel → UpTo (suc fuel)
-  one_more fuel rest used zero at h m placed = by_none numbers base file used at ∙ sym (bytes-none file base waves at)
+  one_more fuel rest used zero at h m placed = by_none numbers base file used at ∙ sym (bytes_none file base waves at)
   one_more fuel rest used (suc count) at h m placed = go (starts_wave (records_at file (suc count) at)) refl
     where
       go : (b : Bool) → starts_wave (records_at file (suc count) at) ≡ b → pieces_by numbers base used file (suc count) at ≡ piece_bytes base waves file (suc count) at
@@ -87,21 +87,21 @@ module _ (waves : List (List ℕ)) (numbers : List ℕ) (base : ℕ) (file spots
           let more = rest (used + 1) (suc count - 256) (at + 1280) (omega arith) (behind_wave m e) (λ k less. placed k (omega arith)) in
           by_wave numbers base file used (suc count) at e
           ∙ (λ i. item_bytes 2 (Copy (byte file at) (be 3 file (at + 1)) (base + number i) 0 256) ++ more i)
-          ∙ sym (bytes-wave file base waves (suc count) at e)
+          ∙ sym (bytes_wave file base waves (suc count) at e)
       go false e =
           let some : 0 < suc count = omega arith in
           let uses = ap length (uses_single file (suc count) at some e) in
           let more = rest used (suc count - 1) (at + 5) (omega arith) (behind_single m some e) (λ k less. placed k (omega arith)) in
-          by_single numbers base file used (suc count) at some e ∙ ap (λ (l : List ℕ). item_bytes 2 (record_of file at) ++ l) more ∙ sym (bytes-single file base waves (suc count) at some e)
+          by_single numbers base file used (suc count) at some e ∙ ap (λ (l : List ℕ). item_bytes 2 (record_of file at) ++ l) more ∙ sym (bytes_single file base waves (suc count) at some e)
 
   pieces_by_is : (fuel : ℕ) → UpTo fuel
-  pieces_by_is zero used count at h m placed = let none : count ≡ 0 = omega arith in rw none (by_none numbers base file used at ∙ sym (bytes-none file base waves at))
+  pieces_by_is zero used count at h m placed = let none : count ≡ 0 = omega arith in rw none (by_none numbers base file used at ∙ sym (bytes_none file base waves at))
   pieces_by_is (suc fuel) used count at h m placed = one_more fuel (pieces_by_is fuel) used count at h m placed
 
   pub frames_by_is : (used count at : ℕ) → MarkedFrames file spots used count at → Placed waves numbers file spots (used + length (all_uses file count at))
       → frames_by numbers base used file count at ≡ frame_bytes base waves file count at
   unfolding frame_by frames_by
-  frames_by_is used zero at m placed = frames_by_none numbers base file used at ∙ sym (frames-none file base waves at)
+  frames_by_is used zero at m placed = frames_by_none numbers base file used at ∙ sym (frames_none file base waves at)
   frames_by_is used (suc count) at m placed =
       let some : 0 < suc count = omega arith in
       let left : suc count - 1 ≡ count = omega arith in
@@ -110,7 +110,7 @@ module _ (waves : List (List ℕ)) (numbers : List ℕ) (base : ℕ) (file spots
       let here = pieces_by_is records used records (at + 2) (omega arith) (frame_marked m some) (λ k less. placed k (omega (arith, uses))) in
       let more = frames_by_is (used + length (uses_at file records (at + 2))) count (behind_frame file at) (rw left at (frames_marked m some refl)) (λ k less. placed k (omega (arith, rw left at uses))) in
       let count-bytes = bytes_of_all (u16 (piece_count file records (at + 2)) ∷ []) in
-      let next = frames-next file base waves (suc count) at some in
+      let next = frames_next file base waves (suc count) at some in
       append_assoc count-bytes (pieces_by numbers base used file records (at + 2)) (frames_by numbers base (used + length (uses_at file records (at + 2))) file count (behind_frame file at))
       ∙ (λ i. count-bytes ++ (here i ++ more i))
       ∙ sym (rw left at next)

@@ -104,20 +104,20 @@ module _ (file : List ℕ) where
   pieces_single count at h e = rw (single_next file count at h e)
 
   module _ (base : ℕ) (waves : List (List ℕ)) where
-    pub bytes-none : (at : ℕ) → piece_bytes base waves file 0 at ≡ []
+    pub bytes_none : (at : ℕ) → piece_bytes base waves file 0 at ≡ []
     unfolding piece_bytes records_at pieces operations_bytes
-    bytes-none at = refl
+    bytes_none at = refl
 
-    pub bytes-wave : (count at : ℕ) → starts_wave (records_at file count at) ≡ true
+    pub bytes_wave : (count at : ℕ) → starts_wave (records_at file count at) ≡ true
         → piece_bytes base waves file count at
         ≡ item_bytes 2 (Copy (byte file at) (be 3 file (at + 1)) (base + place_of waves (wave_at file at)) 0 256) ++ piece_bytes base waves file (count - 256) (at + 1280)
     unfolding piece_bytes operations_bytes
-    bytes-wave count at e = rw (wave_next file count at e)
+    bytes_wave count at e = rw (wave_next file count at e)
 
-    pub bytes-single : (count at : ℕ) → 0 < count → starts_wave (records_at file count at) ≡ false
+    pub bytes_single : (count at : ℕ) → 0 < count → starts_wave (records_at file count at) ≡ false
         → piece_bytes base waves file count at ≡ item_bytes 2 (record_of file at) ++ piece_bytes base waves file (count - 1) (at + 5)
     unfolding piece_bytes operations_bytes
-    bytes-single count at h e = rw (single_next file count at h e)
+    bytes_single count at h e = rw (single_next file count at h e)
 
   -- ---- all frames
 
@@ -138,14 +138,14 @@ module _ (file : List ℕ) where
   all_next known count at h = rw (frames_one count at h)
 
   module _ (base : ℕ) (waves : List (List ℕ)) where
-    pub frames-none : (at : ℕ) → frame_bytes base waves file 0 at ≡ []
+    pub frames_none : (at : ℕ) → frame_bytes base waves file 0 at ≡ []
     unfolding frame_bytes frames_at frames_bytes
-    frames-none at = refl
+    frames_none at = refl
 
-    pub frames-next : (count at : ℕ) → 0 < count
+    pub frames_next : (count at : ℕ) → 0 < count
         → frame_bytes base waves file count at ≡ bytes_of_all (u16 (piece_count file (be 2 file at) (at + 2)) ∷ []) ++ (piece_bytes base waves file (be 2 file at) (at + 2) ++ frame_bytes base waves file (count - 1) (behind_frame file at))
     unfolding frame_bytes piece_bytes piece_count frames_bytes
-    frames-next count at h = rw (frames_one count at h, length-map)
+    frames_next count at h = rw (frames_one count at h, length-map)
 
 -- ---- sizes: which pool a COPY names does not matter
 
@@ -165,18 +165,18 @@ write_six = refl
 
 module _ (file : List ℕ) (base : ℕ) (waves : List (List ℕ)) where
   pub size_none : (at : ℕ) → length (piece_bytes base waves file 0 at) ≡ 0
-  size_none at = ap length (bytes-none file base waves at)
+  size_none at = ap length (bytes_none file base waves at)
 
   pub size_wave : (count at : ℕ) → starts_wave (records_at file count at) ≡ true → length (piece_bytes base waves file count at) ≡ size_of 3 2 + length (piece_bytes base waves file (count - 256) (at + 1280))
-  size_wave count at e = rw (bytes-wave file base waves count at e, length-append, copy_size)
+  size_wave count at e = rw (bytes_wave file base waves count at e, length-append, copy_size)
 
   pub size_single : (count at : ℕ) → 0 < count → starts_wave (records_at file count at) ≡ false
       → length (piece_bytes base waves file count at) ≡ size_of 3 0 + length (piece_bytes base waves file (count - 1) (at + 5))
-  size_single count at h e = rw (bytes-single file base waves count at h e, length-append, write_size)
+  size_single count at h e = rw (bytes_single file base waves count at h e, length-append, write_size)
 
   pub size_frame : (count at : ℕ) → 0 < count
       → length (frame_bytes base waves file count at) ≡ 2 + length (piece_bytes base waves file (be 2 file at) (at + 2)) + length (frame_bytes base waves file (count - 1) (behind_frame file at))
-  size_frame count at h = simp (frames-next file base waves count at h, length-append, fields_size_lem) (omega arith)
+  size_frame count at h = simp (frames_next file base waves count at h, length-append, fields_size_lem) (omega arith)
 
 module _ (base base' : ℕ) (waves waves' : List (List ℕ)) where
   piece_size : (p : Piece) → length (item_bytes 2 (packed_piece base waves p)) ≡ length (item_bytes 2 (packed_piece base' waves' p))

@@ -23,7 +23,7 @@ use Rattle.compare_accepted.specs.Accepted.{FramesWithin, master_drawn, other_dr
 use Rattle.check_version.specs.Answer.{version_header}
 use Rattle.check_version.proofs.Answers.{Has, has, gone}
 use Rattle.compare.specs.Answer.{ComparedWith}
-use Rattle.compare_accepted.proofs.Streams.{agree-is, master-image, other_image_lem}
+use Rattle.compare_accepted.proofs.Streams.{agree_is, master_image, other_image_lem}
 
 -- THE ANSWER
 
@@ -59,20 +59,20 @@ module _ (master other : List ℕ) (image image' : ℕ) where
       behind_master m.stream m.here ∙ ap (λ (r : Checked Stream). rest m.stream r (ltb image pcm_size) (ltb image' pcm_size)) (gone 2 other number place e)
 
   module _ (header header' : Header) (m : Has 1 master header) (o : Has 2 other header') where
-    behind-both : (short short' : Bool) → ltb image pcm_size ≡ short → ltb image' pcm_size ≡ short' → compared master other image image' ≡ rest m.stream (ok o.stream) short short'
-    behind-both short short' e e' =
+    behind_both : (short short' : Bool) → ltb image pcm_size ≡ short → ltb image' pcm_size ≡ short' → compared master other image image' ≡ rest m.stream (ok o.stream) short short'
+    behind_both short short' e e' =
         behind_master m.stream m.here
         ∙ ap (λ (r : Checked Stream). rest m.stream r (ltb image pcm_size) (ltb image' pcm_size)) o.here
         ∙ ap₂ (rest m.stream (ok o.stream)) e e'
 
-    master-short : image < pcm_size → compared master other image image' ≡ refused_file 1 24 0
-    master-short h = behind-both true (ltb image' pcm_size) (lt-ltb image pcm_size h) refl
+    master_short : image < pcm_size → compared master other image image' ≡ refused_file 1 24 0
+    master_short h = behind_both true (ltb image' pcm_size) (lt-ltb image pcm_size h) refl
 
-    other-short : pcm_size ≤ image → image' < pcm_size → compared master other image image' ≡ refused_file 2 24 0
-    other-short h h' = behind-both false true (le-ltb image pcm_size h) (lt-ltb image' pcm_size h')
+    other_short : pcm_size ≤ image → image' < pcm_size → compared master other image image' ≡ refused_file 2 24 0
+    other_short h h' = behind_both false true (le-ltb image pcm_size h) (lt-ltb image' pcm_size h')
 
-    both-agreed : pcm_size ≤ image → pcm_size ≤ image' → compared master other image image' ≡ agreed (agree m.stream o.stream)
-    both-agreed h h' = behind-both false false (le-ltb image pcm_size h) (le-ltb image' pcm_size h')
+    both_agreed : pcm_size ≤ image → pcm_size ≤ image' → compared master other image image' ≡ agreed (agree m.stream o.stream)
+    both_agreed h h' = behind_both false false (le-ltb image pcm_size h) (le-ltb image' pcm_size h')
 
 -- TWO ACCEPTED FILES
 
@@ -109,7 +109,7 @@ module _ (master other : List ℕ) (header header' : Header) (m : Has 1 master h
 
   agree_by_lem : agree m.stream o.stream ≡ agree_by master header other header' (master_drawn pcm_size master header) (other_drawn pcm_size other header')
   agree_by_lem =
-      agree-is other header' o.stream (other_accepted other header' o) two master m.stream is
+      agree_is other header' o.stream (other_accepted other header' o) two master m.stream is
       ∙ ap (λ (h : Header). agree_by master h other header' (master_drawn pcm_size master h) (other_drawn pcm_size other header')) m.header_is
 
   front : (s : Stream) (lent : List ℕ) (drawn : List ℕ) → image_of s ≡ drawn → stored (image_of s) lent ≡ drawn ++ drop pcm_size lent
@@ -120,18 +120,18 @@ module _ (master other : List ℕ) (header header' : Header) (m : Has 1 master h
   after answer passed s found lent e f = ap₂ (λ (x : Compared) (r : Checked Stream). image_after x r lent) e f
 
   module _ (image image' : List ℕ) (room : pcm_size ≤ length image) (room' : pcm_size ≤ length image') where
-    agreed-is : compared master other (length image) (length image') ≡ agreed (agree m.stream o.stream)
-    agreed-is = both-agreed master other (length image) (length image') header header' m o room room'
+    agreed_is : compared master other (length image) (length image') ≡ agreed (agree m.stream o.stream)
+    agreed_is = both_agreed master other (length image) (length image') header header' m o room room'
 
-    master-drawn : image_after (compared master other (length image) (length image')) (read master) image ≡ master_drawn pcm_size master header ++ drop pcm_size image
-    master-drawn =
-        after _ _ m.stream (read master) image agreed-is m.reads
+    master_drawn_lem : image_after (compared master other (length image) (length image')) (read master) image ≡ master_drawn pcm_size master header ++ drop pcm_size image
+    master_drawn_lem =
+        after _ _ m.stream (read master) image agreed_is m.reads
         ∙ front m.stream image (master_drawn pcm_size master header)
-        (master-image other header' o.stream (other_accepted other header' o) two master m.stream is ∙ ap (master_drawn pcm_size master) m.header_is)
+        (master_image other header' o.stream (other_accepted other header' o) two master m.stream is ∙ ap (master_drawn pcm_size master) m.header_is)
 
-    other-drawn : image_after (compared master other (length image) (length image')) (read other) image' ≡ other_drawn pcm_size other header' ++ drop pcm_size image'
-    other-drawn =
-        after _ _ o.stream (read other) image' agreed-is o.reads
+    other_drawn_lem : image_after (compared master other (length image) (length image')) (read other) image' ≡ other_drawn pcm_size other header' ++ drop pcm_size image'
+    other_drawn_lem =
+        after _ _ o.stream (read other) image' agreed_is o.reads
         ∙ front o.stream image' (other_drawn pcm_size other header') (other_image_lem other header' o.stream (other_accepted other header' o) two)
 
     -- the answer and the images that were drawn, each in a part as long as an image
@@ -142,9 +142,9 @@ module _ (master other : List ℕ) (header header' : Header) (m : Has 1 master h
         let drawn : e ≡ master_drawn pcm_size master header = is.1 ∙ ap (λ (n : ℕ). master_drawn n master header) (long ∙ is-size) in
         let drawn' : e' ≡ other_drawn pcm_size other header' = is.2 ∙ ap (λ (n : ℕ). other_drawn n other header') (long' ∙ is-size) in
         let agrees = agree_by_lem ∙ ap₂ (agree_by master header other header') (sym drawn) (sym drawn') ∙ sym is.0 in (
-          says ∙ sym (agreed-is ∙ ap agreed agrees),
-          ap₂ (λ (l : List ℕ) (n : ℕ). l ++ drop n image) drawn is-size ∙ sym master-drawn,
-          ap₂ (λ (l : List ℕ) (n : ℕ). l ++ drop n image') drawn' is-size ∙ sym other-drawn,
+          says ∙ sym (agreed_is ∙ ap agreed agrees),
+          ap₂ (λ (l : List ℕ) (n : ℕ). l ++ drop n image) drawn is-size ∙ sym master_drawn_lem,
+          ap₂ (λ (l : List ℕ) (n : ℕ). l ++ drop n image') drawn' is-size ∙ sym other_drawn_lem,
         )
 
 -- WITH THE IMAGES THAT ARE LENT
@@ -158,12 +158,12 @@ module _ (master other : List ℕ) (header header' : Header) (both : Headers mas
 
   pub with_short_master : length image < pcm_size → (answer : Compared) → answer ≡ refused_file 1 24 0 → ComparedWith answer master other image image' image image'
   with_short_master h answer is =
-      refused_with master other image image' answer 1 24 0 is (master-short master other (length image) (length image') header header' m o h)
+      refused_with master other image image' answer 1 24 0 is (master_short master other (length image) (length image') header header' m o h)
 
   pub with_short_other : pcm_size ≤ length image → length image' < pcm_size → (answer : Compared) → answer ≡ refused_file 2 24 0
       → ComparedWith answer master other image image' image image'
   with_short_other h h' answer is =
-      refused_with master other image image' answer 2 24 0 is (other-short master other (length image) (length image') header header' m o h h')
+      refused_with master other image image' answer 2 24 0 is (other_short master other (length image) (length image') header header' m o h h')
 
   -- each drawn in a part as long as an image
   pub with_images : (room : pcm_size ≤ length image) (room' : pcm_size ≤ length image') (size : ℕ) (part part' e e' : List ℕ) (passed : Bool)

@@ -95,17 +95,17 @@ module _ (other : List ℕ) (header : Header) (s : Stream) (acc : Accepted other
 
   -- a master and such a file
   module _ (master : List ℕ) (t : Stream) (m : IsMaster master t) where
-    master-opening : opening_writes t ≡ master_opening master (header_of master)
-    master-opening = ap (writes_of_all t.pools) m.opening ∙ records_are t.pools master (header_of master).initial_count master_header_size
+    master_opening_lem : opening_writes t ≡ master_opening master (header_of master)
+    master_opening_lem = ap (writes_of_all t.pools) m.opening ∙ records_are t.pools master (header_of master).initial_count master_header_size
 
-    pub master-image : image_of t ≡ master_drawn pcm_size master (header_of master)
-    master-image = ap (played (replicate pcm_size 0x80)) master-opening
+    pub master_image : image_of t ≡ master_drawn pcm_size master (header_of master)
+    master_image = ap (played (replicate pcm_size 0x80)) master_opening_lem
 
-    pub agree-is : agree t s ≡ agree_by master (header_of master) other header (master_drawn pcm_size master (header_of master)) (other_drawn pcm_size other header)
+    pub agree_is : agree t s ≡ agree_by master (header_of master) other header (master_drawn pcm_size master (header_of master)) (other_drawn pcm_size other header)
     unfolding agree agree_by same_part
-    agree-is =
+    agree_is =
         ap₂ ◌&&◌
         (ap₂ ◌&&◌
-        (ap₂ ◌&&◌ (ap₂ beq m.repeats acc.repeat) (ap₂ (λ (x y : List WriteRecord). same_writes (core_writes x) (core_writes y)) master-opening other_opening_lem))
-        (ap₂ same_bytes master-image other_image_lem))
+        (ap₂ ◌&&◌ (ap₂ beq m.repeats acc.repeat) (ap₂ (λ (x y : List WriteRecord). same_writes (core_writes x) (core_writes y)) master_opening_lem other_opening_lem))
+        (ap₂ same_bytes master_image other_image_lem))
         (all_frames_lem master (header_of master) t m.frames)

@@ -70,12 +70,12 @@ part_of_part file offset total source size h =
 -- the write of a record at a place, by the sheet's fields
 pub record_write_lem : (file : List ℕ) (at : ℕ) → record_write file at ≡ write (byte file at) (be 3 file (at + 1)) (byte file (at + 4))
 unfolding decoded_record operation_of
-record_write_lem file at = ap first-write (record_at_lem file at operation_most (omega arith))
+record_write_lem file at = ap first_write (record_at_lem file at operation_most (omega arith))
   where
-    first-write : Operation → WriteRecord
-    first-write (Write target address value) = write target address value
-    first-write (Fill target address size value) = write target address value
-    first-write (Copy target address id source size) = write target address 0
+    first_write : Operation → WriteRecord
+    first_write (Write target address value) = write target address value
+    first_write (Fill target address size value) = write target address value
+    first_write (Copy target address id source size) = write target address 0
 
 -- ONE OPERATION
 
@@ -145,9 +145,9 @@ module _ (file : List ℕ) (header : Header) (s : Stream) (acc : Accepted file h
     filled h last =
         rw (lt-ltb d.opcode 2 h, last) (sym (spread_fill file d.target d.address (at + d.size - 1) d.length))
 
-    writes-here : d.opcode ≤ 2 → allowed setting at (operation_of d) ≡ ok tt → writes_of s.pools (operation_of d) ≡ segment_writes file (segment_at file directory at)
+    writes_here : d.opcode ≤ 2 → allowed setting at (operation_of d) ≡ ok tt → writes_of s.pools (operation_of d) ≡ segment_writes file (segment_at file directory at)
     unfolding writes_of writes_with allowed
-    writes-here known fine = go d.opcode refl
+    writes_here known fine = go d.opcode refl
       where
         go : (n : ℕ) → d.opcode ≡ n → writes_of s.pools (operation_of d) ≡ segment_writes file (segment_at file directory at)
         go zero e =
@@ -179,7 +179,7 @@ module _ (file : List ℕ) (header : Header) (s : Stream) (acc : Accepted file h
       let fields = ap (λ (w : ℕ). fields_at file w at (byte file at)) wide ∙ sym (operation_at_lem (address_width 2) file at (width_range 2).1) in
       let fine = subst (λ (o : Operation). allowed setting at o ≡ ok tt) fields op.fine in
       let known : (numbers_at file at).opcode ≤ 2 = omega (arith, opcode, op.known) in
-      let writes = ap (λ (x : Item). writes_of s.pools x.operation) (sym op.is) ∙ ap (writes_of s.pools) fields ∙ writes-here at known fine in
+      let writes = ap (λ (x : Item). writes_of s.pools x.operation) (sym op.is) ∙ ap (writes_of s.pools) fields ∙ writes_here at known fine in
       let size = ap (λ (w : ℕ). at + size_of w (byte file at)) wide ∙ ap (λ (n : ℕ). at + n) (sym (size_at (address_width 2) file at op.known)) in
       let next : step.item.next ≡ (segment_at file directory at).next = ap (λ (x : Item). x.next) (sym op.is) ∙ size in
       let more = operations_are limit count step.item.next step.others step.from in (

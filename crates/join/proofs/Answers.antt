@@ -84,24 +84,24 @@ module _ (file file' : List ℕ) (header header' : Header) (both : (version_head
   by_29 many = both_refused 29 ((refused_29 file file' room h.stream h'.stream bytes bytes' h.here h'.here).1 (omega (arith, many, operations_are)))
 
   module _ (few : operations ≤ 65535) where
-    few-is : first_count h'.stream ≤ 65535
-    few-is = omega (arith, few, operations_are)
+    few_is : first_count h'.stream ≤ 65535
+    few_is = omega (arith, few, operations_are)
 
-    pub by-30 : {answer : Joining ℕ} → 65536 < pools → answer ≡ join_refused inNeither 30 0 → JoinedWith answer file file' buffer buffer
-    by-30 many = both_refused 30 ((refused_30 file file' room h.stream h'.stream bytes bytes' h.here h'.here).1 (few-is, omega (arith, many, pools_are)))
+    pub by_30 : {answer : Joining ℕ} → 65536 < pools → answer ≡ join_refused inNeither 30 0 → JoinedWith answer file file' buffer buffer
+    by_30 many = both_refused 30 ((refused_30 file file' room h.stream h'.stream bytes bytes' h.here h'.here).1 (few_is, omega (arith, many, pools_are)))
 
     module _ (fewer : pools ≤ 65536) where
-      fewer-are : length h.stream.pools + length h'.stream.pools ≤ 65536
-      fewer-are = omega (arith, fewer, pools_are)
+      fewer_are : length h.stream.pools + length h'.stream.pools ≤ 65536
+      fewer_are = omega (arith, fewer, pools_are)
 
-      pub by-23 : {answer : Joining ℕ} → file_limit < size → answer ≡ join_refused inNeither 23 0 → JoinedWith answer file file' buffer buffer
-      by-23 large =
-          both_refused 23 ((refused_23 file file' room h.stream h'.stream bytes bytes' h.here h'.here).1 (few-is, fewer-are, omega (arith, large)))
+      pub by_23 : {answer : Joining ℕ} → file_limit < size → answer ≡ join_refused inNeither 23 0 → JoinedWith answer file file' buffer buffer
+      by_23 large =
+          both_refused 23 ((refused_23 file file' room h.stream h'.stream bytes bytes' h.here h'.here).1 (few_is, fewer_are, omega (arith, large)))
 
       module _ (small : size ≤ file_limit) where
-        pub by-24 : {answer : Joining ℕ} → room < size → answer ≡ join_refused inNeither 24 0 → JoinedWith answer file file' buffer buffer
-        by-24 short =
-            both_refused 24 ((refused_24 file file' room h.stream h'.stream bytes bytes' h.here h'.here).1 (few-is, fewer-are, omega (arith, small), omega (arith, short)))
+        pub by_24 : {answer : Joining ℕ} → room < size → answer ≡ join_refused inNeither 24 0 → JoinedWith answer file file' buffer buffer
+        by_24 short =
+            both_refused 24 ((refused_24 file file' room h.stream h'.stream bytes bytes' h.here h'.here).1 (few_is, fewer_are, omega (arith, small), omega (arith, short)))
 
         module _ (fits : size ≤ room) where
           -- nothing is refused
@@ -126,8 +126,8 @@ module _ (file file' : List ℕ) (header header' : Header) (both : (version_head
                 reads' = h'.reads;
                 two = h.is;
                 two' = h'.is;
-                first_count_lem = few-is;
-                pool_count = fewer-are;
+                first_count_lem = few_is;
+                pool_count = fewer_are;
                 small = omega (arith, small, long);
                 fits = omega (arith, fits, long);
                 result = λ i. written (joined (sym (stream_is file header bytes h) i) (sym (stream_is file' header' bytes' h') i));

@@ -24,7 +24,7 @@ use Rattle.join_stream.proofs.Counts.{first_said}
 use Rattle.join_stream.proofs.Join.{stream_in_lem}
 use Rattle.join_stream.proofs.Joined.{operations_renumbered, frames_renumbered_lem}
 use Rattle.join_renumber.specs.Renumbered.{items_renumbered, frames_renumbered}
-use Rattle.join_renumber.proofs.Renumbered.{items-are, behind-count, frames-are}
+use Rattle.join_renumber.proofs.Renumbered.{items_are, behind_count, frames_are}
 use Rattle.join_put_second.specs.Second.{SecondFits, opening_run, behind_run, second_bytes}
 
 -- the bytes that were taken from a place are a part of the file
@@ -69,7 +69,7 @@ module _ (file : List ℕ) (header : Header) (bytes : AllBytes file) (h : Has 2 
       let copied : part file start (header.frame_start - start) ≡ old ++ [] = took_is t ∙ sym (append-nil old) in
       let long : length (old ++ []) ≡ length old = ap length (append-nil old) in
       ap (λ (l : List ℕ). items_renumbered before moved file header.initial_count start (put l (start + moved) buffer)) copied
-      ∙ items-are before moved file (setting_for file header s.cards) two small (opening_limit header file) header.initial_count start (s.opening, header.frame_start) [] buffer
+      ∙ items_are before moved file (setting_for file header s.cards) two small (opening_limit header file) header.initial_count start (s.opening, header.frame_start) [] buffer
       (opening_limit_lem header file acc.first_within).1 acc.opening (omega (arith, t.up_to))
       ∙ ap (λ (l : List ℕ). put l (start + moved) buffer) (append-nil (operations_bytes 2 (map (renumbered before) s.opening)))
       ∙ ap (λ (x : Stream). put (operations_bytes 2 (map (renumbered before) x.opening)) (start + moved) buffer) (sym stream_is)
@@ -138,8 +138,8 @@ module _ (file : List ℕ) (header : Header) (bytes : AllBytes file) (h : Has 2 
       let long : length old ≡ rest = ap length (sym behind_bytes) ∙ length-drop (start + 2) file in
       let copied : part file (start + 2) rest ≡ old = ap (take rest) behind_bytes ∙ take_all rest old (omega arith) in
       (λ i. frames_renumbered before shift file (f.count i) start (put (copied i) (start + 2 + shift) buffer))
-      ∙ behind-count before shift file setting two small f.more start f.first f.others.0 buffer f.room f.here
-      (λ l. frames-are before shift file setting two small f.more f.first.1 f.others l f.from) (omega (arith, long, f.room))
+      ∙ behind_count before shift file setting two small f.more start f.first f.others.0 buffer f.room f.here
+      (λ l. frames_are before shift file setting two small f.more f.first.1 f.others l f.from) (omega (arith, long, f.room))
       ∙ ap (λ (l : List ℕ). put l (start + 2 + shift) buffer) (sym (behind_said before))
 
   -- how long the runs are

@@ -84,11 +84,11 @@ module _ (before shift : ℕ) (file : List ℕ) where
         subst (λ (o : Operation). ItemIs at o rest buffer) is (item_is at (byte file at) rest buffer refl found.known)
 
     -- the first operation and those behind it
-    first-and-more : (limit count at : ℕ) (item : Item) (others : List Operation) (rest buffer : List ℕ) → limit ≤ length file
+    first_and_more : (limit count at : ℕ) (item : Item) (others : List Operation) (rest buffer : List ℕ) → limit ≤ length file
         → item_at setting file limit at ≡ ok item → ((l : List ℕ) → ItemsAre count item.next others rest l)
         → ItemsAre (suc count) at (item.operation ∷ others) rest buffer
     unfolding operations_bytes items_renumbered address_width
-    first-and-more limit count at item others rest buffer within here more fits =
+    first_and_more limit count at item others rest buffer within here more fits =
         let old = item_bytes 2 item.operation in
         let new = item_bytes 2 (renumbered before item.operation) in
         let others-old = operations_bytes 2 others in
@@ -120,25 +120,25 @@ module _ (before shift : ℕ) (file : List ℕ) where
         ∙ ap (λ (l : List ℕ). put l place buffer) (sym (append_assoc new others-new rest))
 
     -- so many operations, with bytes behind them
-    pub items-are : (limit count at : ℕ) (found : List Operation × ℕ) (rest buffer : List ℕ) → limit ≤ length file
+    pub items_are : (limit count at : ℕ) (found : List Operation × ℕ) (rest buffer : List ℕ) → limit ≤ length file
         → operations_from setting file limit count at ≡ ok found → ItemsAre count at found.0 rest buffer
     unfolding operations_from operations_bytes items_renumbered
-    items-are limit zero at found rest buffer within e =
+    items_are limit zero at found rest buffer within e =
         subst (λ (l : List Operation). ItemsAre 0 at l rest buffer) (ap (λ (f : List Operation × ℕ). f.0) (ok_is e)) (λ fits. refl)
-    items-are limit (suc count) at found rest buffer within e =
+    items_are limit (suc count) at found rest buffer within e =
         let step = operation_step setting file limit count at found e in
         subst (λ (l : List Operation). ItemsAre (suc count) at l rest buffer) (ap (λ (f : List Operation × ℕ). f.0) step.is)
-        (first-and-more limit count at step.item step.others.0 rest buffer within step.here
-        (λ l. items-are limit count step.item.next step.others rest l within step.from))
+        (first_and_more limit count at step.item step.others.0 rest buffer within step.here
+        (λ l. items_are limit count step.item.next step.others rest l within step.from))
 
     -- the operations of a first frame and the frames behind it, without the first count: that one is written anew
-    pub behind-count : (count at : ℕ) (frame : List Operation × ℕ) (others : List (List Operation)) (buffer : List ℕ) → at + 2 ≤ length file
+    pub behind_count : (count at : ℕ) (frame : List Operation × ℕ) (others : List (List Operation)) (buffer : List ℕ) → at + 2 ≤ length file
         → operations_from setting file (length file) (be 2 file at) (at + 2) ≡ ok frame → ((l : List ℕ) → FramesAre count frame.1 others l)
         → at + 2 + shift + length (operations_bytes 2 frame.0 ++ frames_bytes 2 others) ≤ length buffer
         → frames_renumbered before shift file (suc count) at (put (operations_bytes 2 frame.0 ++ frames_bytes 2 others) (at + 2 + shift) buffer)
         ≡ put (operations_bytes 2 (map (renumbered before) frame.0) ++ frames_bytes 2 (map (map (renumbered before)) others)) (at + 2 + shift) buffer
     unfolding frames_renumbered address_width
-    behind-count count at frame others buffer inside here more fits =
+    behind_count count at frame others buffer inside here more fits =
         let old = operations_bytes 2 frame.0 in
         let new = operations_bytes 2 (map (renumbered before) frame.0) in
         let others-old = frames_bytes 2 others in
@@ -162,18 +162,18 @@ module _ (before shift : ℕ) (file : List ℕ) where
         ap (λ (b : Bool). cond b (frames_renumbered before shift file count (items_walked 3 file (be 2 file at) (at + 2)) done) copied) goes
         ∙ ap (λ (k : ℕ). frames_renumbered before shift file count k done) there
         ∙ ap (frames_renumbered before shift file count frame.1)
-        (items-are (length file) (be 2 file at) (at + 2) frame others-old buffer (le_refl (length file)) here fits ∙ put_append new others-old place buffer (omega arith))
+        (items_are (length file) (be 2 file at) (at + 2) frame others-old buffer (le_refl (length file)) here fits ∙ put_append new others-old place buffer (omega arith))
         ∙ ap (λ (k : ℕ). frames_renumbered before shift file count frame.1 (put others-old k front)) put-at
         ∙ more front (omega arith)
         ∙ ap (λ (k : ℕ). put others-new k front) (sym put-at)
         ∙ sym (put_append new others-new place buffer (omega arith))
 
     -- a frame, whose count stays, and those behind it
-    frame-and-more : (count at : ℕ) (frame : List Operation × ℕ) (others : List (List Operation)) (buffer : List ℕ) → at + 2 ≤ length file
+    frame_and_more : (count at : ℕ) (frame : List Operation × ℕ) (others : List (List Operation)) (buffer : List ℕ) → at + 2 ≤ length file
         → operations_from setting file (length file) (be 2 file at) (at + 2) ≡ ok frame → ((l : List ℕ) → FramesAre count frame.1 others l)
         → FramesAre (suc count) at (frame.0 ∷ others) buffer
     unfolding frames_bytes
-    frame-and-more count at frame others buffer inside here more fits =
+    frame_and_more count at frame others buffer inside here more fits =
         let number = bytes_of_all (u16 (length frame.0) ∷ []) in
         let number' = bytes_of_all (u16 (length (map (renumbered before) frame.0)) ∷ []) in
         let old = operations_bytes 2 frame.0 ++ frames_bytes 2 others in
@@ -190,19 +190,19 @@ module _ (before shift : ℕ) (file : List ℕ) where
         let long' = length-append number new in
         let put-at : at + shift + 2 ≡ at + 2 + shift = omega arith in
         ap (frames_renumbered before shift file (suc count) at) (put_next number old (at + shift) 2 buffer two_bytes fits ∙ ap (λ (k : ℕ). put old k front) put-at)
-        ∙ behind-count count at frame others front inside here more (omega arith)
+        ∙ behind_count count at frame others front inside here more (omega arith)
         ∙ ap (λ (k : ℕ). put new k front) (sym put-at)
         ∙ sym (put_next number new (at + shift) 2 buffer two_bytes (omega arith))
         ∙ ap (λ (l : List ℕ). put (l ++ new) (at + shift) buffer) stays
 
     -- so many frames
-    pub frames-are : (count at : ℕ) (found : List (List Operation) × ℕ) (buffer : List ℕ) → frames_from setting file count at ≡ ok found
+    pub frames_are : (count at : ℕ) (found : List (List Operation) × ℕ) (buffer : List ℕ) → frames_from setting file count at ≡ ok found
         → FramesAre count at found.0 buffer
     unfolding frames_from frames_bytes frames_renumbered
-    frames-are zero at found buffer e =
+    frames_are zero at found buffer e =
         subst (λ (l : List (List Operation)). FramesAre 0 at l buffer) (ap (λ (f : List (List Operation) × ℕ). f.0) (ok_is e)) (λ fits. refl)
-    frames-are (suc count) at found buffer e =
+    frames_are (suc count) at found buffer e =
         let step = frame_step setting file count at found e in
         subst (λ (l : List (List Operation)). FramesAre (suc count) at l buffer) (ap (λ (f : List (List Operation) × ℕ). f.0) step.is)
-        (frame-and-more count at step.frame step.others.0 buffer step.room step.here
-        (λ l. frames-are count step.frame.1 step.others l step.from))
+        (frame_and_more count at step.frame step.others.0 buffer step.room step.here
+        (λ l. frames_are count step.frame.1 step.others l step.from))

@@ -76,10 +76,10 @@ record Passed {A : Type 0} (check : Checked A) (next : A → Joining (List ℕ))
 
 passed : {A : Type 0} (named : NamedFile) (check : Checked A) (next : A → Joining (List ℕ)) (bytes : List ℕ) → naming named check next ≡ join_made bytes → Passed check next bytes
 passed named (ok a) next bytes e = record { value = a; is = refl; then = e }
-passed named (refused number place) next bytes e = absurd (no-refusal e)
+passed named (refused number place) next bytes e = absurd (no_refusal e)
   where
-    no-refusal : {named : NamedFile} {n p : ℕ} → join_refused named n p ≡ join_made bytes → ⊥
-    no-refusal e = let z : ◌≡◌ {A = ℕ} 0 1 = cc in omega arith
+    no_refusal : {named : NamedFile} {n p : ℕ} → join_refused named n p ≡ join_made bytes → ⊥
+    no_refusal e = let z : ◌≡◌ {A = ℕ} 0 1 = cc in omega arith
 
 -- bytes are made exactly where nothing is refused, and they are the written form of the two streams joined
 pub joins_exactly : (file file' : List ℕ) (room : ℕ) (bytes : List ℕ) → (join_into file file' room ≡ join_made bytes) ↔ Joins file file' room bytes

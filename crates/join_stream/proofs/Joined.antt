@@ -158,14 +158,14 @@ frames_counted a b two two' = (λ h. there b.frames two'.within.some_frame (each
     there [] some h = absurd (omega arith)
     there (frame ∷ frames) some h = simp (length-append, length-map) at h.0
 
-    put-counted : (frames : List (List Operation)) → FramesCounted frames → length b.opening + length (get_or frames 0 []) ≤ 65535 → FramesCounted (put frames)
-    put-counted [] h few = tt
-    put-counted (frame ∷ frames) h few = (simp (length-append, length-map) few, counted_map n frames h.1)
+    put_counted : (frames : List (List Operation)) → FramesCounted frames → length b.opening + length (get_or frames 0 []) ≤ 65535 → FramesCounted (put frames)
+    put_counted [] h few = tt
+    put_counted (frame ∷ frames) h few = (simp (length-append, length-map) few, counted_map n frames h.1)
 
     back : first_count b ≤ 65535 → FramesCounted (a.frames ++ put b.frames)
     back few =
         each_append (λ (frame : List Operation). length frame ≤ 65535) a.frames (put b.frames) (counted a.pools a.frames (frames_within a two))
-        (put-counted b.frames (counted b.pools b.frames (frames_within b two')) few)
+        (put_counted b.frames (counted b.pools b.frames (frames_within b two')) few)
 
 -- ---- bytes
 

@@ -20,12 +20,12 @@ use Rattle.base_format.proofs.Writes.{length_upward}
 use Rattle.play_laws.proofs.PlannedOperations.{gathered_step}
 use Rattle.bytes_operation.specs.declared.decode.Decoded.{Decoded}
 use Rattle.play_fast_fill_records.specs.Records.{fill_place, fill_records}
-use Rattle.play_fast_fill_records.proofs.Operation.{drop_upward, take_upward, operation-records, operation-after}
+use Rattle.play_fast_fill_records.proofs.Operation.{drop_upward, take_upward, operation_records, operation_after}
 use Rattle.play_fast_fill_records.proofs.Records.{records_join}
 use Rattle.play_fast_fill.specs.declared.FillsTaken.{FillsTaken}
 use Rattle.play_fast_fill.specs.Fills.{stopped_at, count_at, fills_from, fills_taken}
 use Rattle.play_fast_fill.proofs.Items.{version_of, width_of, starts_in, ends_in, item_on, Used, used}
-use Rattle.play_fast_fill.proofs.Steps.{fills_end, fills_full, fills-none, fills-step, from_fewer}
+use Rattle.play_fast_fill.proofs.Steps.{fills_end, fills_full, fills_none, fills_step, from_fewer}
 
 -- what a call gathers, where the walk stops
 abbrev pub taken : StreamPlayer → List ℕ → (left room : ℕ) → Progress → FillsTaken → Gathered
@@ -66,27 +66,27 @@ module _ (state : StreamPlayer) (file : List ℕ) (limit end : ℕ) (pooled : eq
     writes = writes_with (bytes_at file state.header.directory_offset) u.item.operation
 
     -- the writes that are not made yet
-    left-writes : drop made writes ≡ upward target (address + made) (replicate (all - made) value)
-    left-writes =
+    left_writes : drop made writes ≡ upward target (address + made) (replicate (all - made) value)
+    left_writes =
         let sum : all ≡ made + (all - made) = omega arith in
         rw u.writes (ap (λ (k : ℕ). drop made (upward target address (replicate k value))) sum ∙ drop_upward target value made (all - made) address)
 
     records : (n : ℕ) → made + n ≤ all → fill_records file (version_of state) n (fill_place p.cursor made) ≡ upward target (address + made) (replicate n value)
-    records n few = operation-records file (version_of state) p.cursor made (omega arith) u.low more (omega (arith, u.small)) n few
+    records n few = operation_records file (version_of state) p.cursor made (omega arith) u.low more (omega (arith, u.small)) n few
 
-    first-writes : (n : ℕ) → made + n ≤ all → take n (drop made writes) ≡ fill_records file (version_of state) n (fill_place p.cursor made)
-    first-writes n few =
+    first_writes : (n : ℕ) → made + n ≤ all → take n (drop made writes) ≡ fill_records file (version_of state) n (fill_place p.cursor made)
+    first_writes n few =
         let sum : all - made ≡ n + (all - made - n) = omega arith in
-        rw left-writes (ap (λ (k : ℕ). take n (upward target (address + made) (replicate k value))) sum ∙ take_upward target value n (all - made - n) (address + made) ∙ sym (records n few))
+        rw left_writes (ap (λ (k : ℕ). take n (upward target (address + made) (replicate k value))) sum ∙ take_upward target value n (all - made - n) (address + made) ∙ sym (records n few))
 
-    all-long : length writes ≡ all
-    all-long = ap length u.writes ∙ length_upward target address _ ∙ length-replicate all value
+    all_long : length writes ≡ all
+    all_long = ap length u.writes ∙ length_upward target address _ ∙ length-replicate all value
 
-    left-long : length (drop made writes) ≡ all - made
-    left-long = rw (length-drop, all-long)
+    left_long : length (drop made writes) ≡ all - made
+    left_long = rw (length-drop, all_long)
 
-    waves-stay : cond (eqb made 0) (waves_by file state.header.directory_offset u.item.operation p.wave_sources) p.wave_sources ≡ p.wave_sources
-    waves-stay = same_waves (eqb made 0) p.wave_sources _ (u.waves p.wave_sources)
+    waves_stay : cond (eqb made 0) (waves_by file state.header.directory_offset u.item.operation p.wave_sources) p.wave_sources ≡ p.wave_sources
+    waves_stay = same_waves (eqb made 0) p.wave_sources _ (u.waves p.wave_sources)
 
     -- the room ends within it
     cut : ltb room (all - made) ≡ true
@@ -97,7 +97,7 @@ module _ (state : StreamPlayer) (file : List ℕ) (limit end : ℕ) (pooled : eq
         })
     cut short =
         gathered_step state file limit left room p some free
-        ∙ rw (u.is, all-long, le-ltb all made (omega arith), left-long, short, waves-stay, first-writes room (omega (arith, ltb-true room (all - made) short)))
+        ∙ rw (u.is, all_long, le-ltb all made (omega arith), left_long, short, waves_stay, first_writes room (omega (arith, ltb-true room (all - made) short)))
 
     -- then the others
     onward : ltb room (all - made) ≡ false → (g : Gathered)
@@ -105,7 +105,7 @@ module _ (state : StreamPlayer) (file : List ℕ) (limit end : ℕ) (pooled : eq
         → gathered state file limit left room p ≡ ok (record { records = fill_records file (version_of state) (all - made) (fill_place p.cursor made) ++ g.records; room = g.room; progress = g.progress })
     onward enough g e =
         gathered_step state file limit left room p some free
-        ∙ rw (u.is, all-long, le-ltb all made (omega arith), left-long, enough, waves-stay, u.next, e, left-writes, ← (records (all - made) (omega arith)))
+        ∙ rw (u.is, all_long, le-ltb all made (omega arith), left_long, enough, waves_stay, u.next, e, left_writes, ← (records (all - made) (omega arith)))
 
     -- the records of both
     joined : (n : ℕ)
@@ -113,7 +113,7 @@ module _ (state : StreamPlayer) (file : List ℕ) (limit end : ℕ) (pooled : eq
         ≡ fill_records file (version_of state) (all - made + n) (fill_place p.cursor made)
     joined n =
         sym (records_join file (version_of state) (all - made) n (fill_place p.cursor made)
-        ∙ ap (λ (l : List WriteRecord). fill_records file (version_of state) (all - made) (fill_place p.cursor made) ++ l) (operation-after file (version_of state) p.cursor made (omega arith) u.low more (omega (arith, u.small)) n))
+        ∙ ap (λ (l : List WriteRecord). fill_records file (version_of state) (all - made) (fill_place p.cursor made) ++ l) (operation_after file (version_of state) p.cursor made (omega arith) u.low more (omega (arith, u.small)) n))
 
   -- SO MANY OPERATIONS
 
@@ -188,12 +188,12 @@ module _ (state : StreamPlayer) (file : List ℕ) (limit end : ℕ) (pooled : eq
 
       go : (b : Bool) → leb (count p.cursor) made ≡ b → Others → gathered state file limit (suc left) (suc others) p ≡ ok (taken state file (suc left) (suc others) p (walk (suc left) (suc others) p.cursor made))
       go true none later =
-          absurd (false≢true (rw (fills-none file (width_of state) (starts_in state) (ends_in state) end (suc left) (suc others) p.cursor made (omega arith) (omega arith) none) at is))
+          absurd (false≢true (rw (fills_none file (width_of state) (starts_in state) (ends_in state) end (suc left) (suc others) p.cursor made (omega arith) (omega arith) none) at is))
       go false more later =
           let some : made < count p.cursor = leb-false (count p.cursor) made more in
           let one : suc left - 1 ≡ left = omega arith in
           let u = used state file limit end p.cursor pooled most (ne_eqb (count p.cursor) 0 (λ none. omega arith)) in
-          first later u.0 u.1 u.2 some (ltb (suc others) rest) refl (fills-step file (width_of state) (starts_in state) (ends_in state) end (suc left) (suc others) p.cursor made (omega arith) (omega arith) more ∙ rw one)
+          first later u.0 u.1 u.2 some (ltb (suc others) rest) refl (fills_step file (width_of state) (starts_in state) (ends_in state) end (suc left) (suc others) p.cursor made (omega arith) (omega arith) more ∙ rw one)
 
 -- with the ranges of a version and its cards, and the same limit or a later one
 pub fills_gathered : (state : StreamPlayer) (file : List ℕ) (limit later left room cursor writes : ℕ) (p : Progress) (r : FillsTaken) → limit ≤ later → limit ≤ length file

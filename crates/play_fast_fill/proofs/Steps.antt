@@ -34,20 +34,20 @@ module _ (file : List ℕ) (width : ℕ) (starts ends : List ℕ) (limit : ℕ) 
     count = count_at file width starts ends limit cursor
 
     -- an operation that is not allowed, or whose writes are all made
-    pub fills-none : leb count writes ≡ true → fills_from file width starts ends limit left room cursor writes ≡ stopped_at false cursor left room writes
+    pub fills_none : leb count writes ≡ true → fills_from file width starts ends limit left room cursor writes ≡ stopped_at false cursor left room writes
     unfolding fills_from
-    fills-none e = go left more
+    fills_none e = go left more
       where
         go : (n : ℕ) → 0 < n → fills_from file width starts ends limit n room cursor writes ≡ stopped_at false cursor n room writes
         go zero h = absurd (not-suc-le-zero h)
         go (suc n) h = rw (ne_eqb room 0 (λ none. omega arith), e)
 
     -- an operation, then the others
-    pub fills-step : leb count writes ≡ false
+    pub fills_step : leb count writes ≡ false
         → fills_from file width starts ends limit left room cursor writes
         ≡ cond (ltb room (count - writes)) (stopped_at true cursor left 0 (writes + room)) (fills_from file width starts ends limit (left - 1) (room - (count - writes)) (cursor + (decoded_at width file cursor).size) 0)
     unfolding fills_from
-    fills-step e = go left more
+    fills_step e = go left more
       where
         go : (n : ℕ) → 0 < n
             → fills_from file width starts ends limit n room cursor writes

@@ -85,9 +85,9 @@ module _ (file : List ℕ) (version : ℕ) where
             made = 0;
           }
 
-      first-is : next_fill file version (fill_place at made) ≡ first
+      first_is : next_fill file version (fill_place at made) ≡ first
       unfolding next_fill
-      first-is =
+      first_is =
           let range = width_range version in
           let bytes = part file at 16 in
           let opcode : byte bytes 0 ≤ 1 = unfold decoded_operation in low in
@@ -102,12 +102,12 @@ module _ (file : List ℕ) (version : ℕ) where
       wraps = mod-eq_of_lt (omega arith)
 
       -- so many of those that are not made yet
-      pub operation-records : (n : ℕ) → made + n ≤ item.length
+      pub operation_records : (n : ℕ) → made + n ≤ item.length
           → fill_records file version n (fill_place at made) ≡ upward item.target (item.address + made) (replicate n item.value)
       unfolding fill_records upward
-      operation-records zero few = refl
-      operation-records (suc n) few =
-          rw (first-is, wraps)
+      operation_records zero few = refl
+      operation_records (suc n) few =
+          rw (first_is, wraps)
           (ap (λ (l : List WriteRecord). write item.target (item.address + made) item.value ∷ l)
           (further_records n
           (record { target = item.target; address = item.address + made; value = item.value; left = item.length - made - 1; cursor = at + item.size; made = 0 })
@@ -115,12 +115,12 @@ module _ (file : List ℕ) (version : ℕ) where
           (omega arith)))
 
       -- behind all of them
-      pub operation-after : (n : ℕ)
+      pub operation_after : (n : ℕ)
           → fill_records file version n (place_after file version (item.length - made) (fill_place at made)) ≡ fill_records file version n (fill_place (at + item.size) 0)
       unfolding place_after
-      operation-after n =
+      operation_after n =
           let others : ℕ = item.length - made - 1 in
           let one : item.length - made ≡ suc others = omega arith in
-          let last = sym (after_next file version others (fill_place at made)) ∙ ap (place_after file version others) first-is ∙ further_after others first (omega arith) (omega (arith, wraps)) in
+          let last = sym (after_next file version others (fill_place at made)) ∙ ap (place_after file version others) first_is ∙ further_after others first (omega arith) (omega (arith, wraps)) in
           let none : others - others ≡ 0 = omega arith in
           rw (one, last) (records_fresh n (further others first) none)

@@ -18,7 +18,7 @@ use Rattle.play_fast_step.specs.declared.Step.{Step}
 use Rattle.play_fast_part.specs.PlayingPart.{playing_part_of, left_of, playing}
 use Rattle.play_fast_step.specs.Step.{no_step, step_to, stepped}
 use Rattle.play_fast_part.proofs.Going.{playing_part_going}
-use Rattle.play_fast_step.proofs.Stepped.{limit_of, going_within, taken_writes, step-played}
+use Rattle.play_fast_step.proofs.Stepped.{limit_of, going_within, taken_writes, step_played}
 use Rattle.play_fast_fill_records.specs.Records.{fill_place, fill_records}
 use Rattle.play_fast_fill.specs.declared.FillsTaken.{FillsTaken}
 use Rattle.play_fast_fill.specs.Fills.{fills_taken}
@@ -89,5 +89,5 @@ fill_call state file room c step e s taken =
       room = r.room;
       progress = placed q r.cursor n r.writes state.progress.wave_sources;
     })) index in
-    rw (writes.otherwise, writes.from, writes.begun) (step-played state file room c r.left r.cursor r.writes 0 count count step e takes.there
+    rw (writes.otherwise, writes.from, writes.begun) (step_played state file room c r.left r.cursor r.writes 0 count count step e takes.there
     (fill_records file version count (fill_place c.at.cursor c.at.write_index)) r.room (gathers ∙ placed') fewer.0 takes.is taken)

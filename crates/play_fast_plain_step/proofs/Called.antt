@@ -17,7 +17,7 @@ use Rattle.play_fast_part.specs.PlayingPart.{no_playing_part, playing_part_of, l
 use Rattle.play_fast_step.specs.Step.{stepped}
 use Rattle.play_fast_part.proofs.Found.{playing_part_there}
 use Rattle.play_fast_part.proofs.Going.{playing_part_going}
-use Rattle.play_fast_step.proofs.Stepped.{limit_of, going_within, taken_writes, step-played}
+use Rattle.play_fast_step.proofs.Stepped.{limit_of, going_within, taken_writes, step_played}
 use Rattle.play_fast_plain_step.specs.PlainStep.{plain_step}
 use Rattle.play_fast_plain_step.proofs.Takes.{behind_of, Takes, plain_takes}
 
@@ -47,7 +47,7 @@ module _ (state : StreamPlayer) (file : List ℕ) (room : ℕ) (c : PlayingPart)
       let index : c.at.operation_index + count ≡ c.at.operation_count - (left_of c - count) = omega (arith, going.counted, takes.few) in
       let gathers = gather_all state file (limit_of state file c) c.limit (going_within state file c going) count (left_of c) room q takes.few takes.fit takes.full takes.unbegun takes.some in
       let placed' = ap {B = Checked Gathered} (λ (n : ℕ). ok (record { records = plain_writes version file count c.at.cursor; room = room - count; progress = placed q behind n 0 state.progress.wave_sources })) index in
-      rw (writes.plainly, writes.from) (step-played state file room c (left_of c - count) behind 0 count 0 count step e there (plain_writes version file count c.at.cursor) (room - count)
+      rw (writes.plainly, writes.from) (step_played state file room c (left_of c - count) behind 0 count 0 count step e there (plain_writes version file count c.at.cursor) (room - count)
       (gathers ∙ placed') (omega arith) takes.is taken)
 
 pub plain_call : (state : StreamPlayer) (file : List ℕ) (room : ℕ) (c : PlayingPart) (step : Step) → c ≡ playing_part_of file state.header state.cards.count state.progress

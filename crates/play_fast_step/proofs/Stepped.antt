@@ -121,9 +121,9 @@ module _ (state : StreamPlayer) (file : List ℕ) (room : ℕ) (c : PlayingPart)
   -- THE CALL
 
   module _ (e : c ≡ playing_part_of file state.header state.cards.count state.progress) (there : c.none ≡ false) where
-    pub step-played : (records : List WriteRecord) (free : ℕ)
+    pub step_played : (records : List WriteRecord) (free : ℕ)
         → gathered state file (limit_of state file c) (c.at.operation_count - c.at.operation_index) room q ≡ ok (record { records = records; room = free; progress = behind })
         → left ≤ c.at.operation_count - c.at.operation_index → step ≡ step_to c left cursor writes plain others count → step.taken ≡ true
         → call state file room ≡ ok (answer records)
-    step-played records free is few s taken =
+    step_played records free is few s taken =
         playing_part_call state file room c e there ∙ ap as25 (part_step records free few (playing_part_going state file c e there) is (step_taken c left cursor writes plain others count step s taken))

@@ -43,9 +43,9 @@ module _ (file : List ℕ) (directory at : ℕ) where
     item = decoded_at width file at
 
     -- an opcode that no operation has
-    pub no-opcode : 2 < item.opcode → here ≡ no_span
+    pub no_opcode : 2 < item.opcode → here ≡ no_span
     unfolding operation_decoded
-    no-opcode more = rw (lt-ltb 2 (byte file at) (omega (arith, opcode_at width file at)))
+    no_opcode more = rw (lt-ltb 2 (byte file at) (omega (arith, opcode_at width file at)))
 
     module _ (few : item.opcode ≤ 2) where
       low : byte file at ≤ 2

@@ -42,18 +42,18 @@ module _ (state : StreamPlayer) (file : List ℕ) (room : ℕ) (p : Progress) (r
 
   -- what is next, by its part
   module _ (next : NextPart) (is : next ≡ next_part state.header p) where
-    pub begins-opening : (q : Progress) → next.part ≡ part_number Opening → q ≡ opening_begun state.header p → r ≡ plan_told state (plan_opening state file room q) → r ≡ plan_told state (plan_between state file room p)
+    pub begins_opening : (q : Progress) → next.part ≡ part_number Opening → q ≡ opening_begun state.header p → r ≡ plan_told state (plan_opening state file room q) → r ≡ plan_told state (plan_between state file room p)
     unfolding plan
-    begins-opening q e begun h = rw (← is, e, ← begun) h
+    begins_opening q e begun h = rw (← is, e, ← begun) h
 
-    pub begins-frame : (next.part ≡ part_number Opening → ⊥) → next.part ≡ part_number Frame → r ≡ plan_told state (plan_begun state file room next.place next.frame p)
+    pub begins_frame : (next.part ≡ part_number Opening → ⊥) → next.part ≡ part_number Frame → r ≡ plan_told state (plan_begun state file room next.place next.frame p)
         → r ≡ plan_told state (plan_between state file room p)
     unfolding plan
-    begins-frame other e h = rw (← is, ne_eqb _ _ other, eq-eqb _ _ e) h
+    begins_frame other e h = rw (← is, ne_eqb _ _ other, eq-eqb _ _ e) h
 
-    begins-closing : (next.part ≡ part_number Opening → ⊥) → (next.part ≡ part_number Frame → ⊥) → r ≡ plan_told state (plan_closing state room (closing_at 0 false p)) → r ≡ plan_told state (plan_between state file room p)
+    begins_closing : (next.part ≡ part_number Opening → ⊥) → (next.part ≡ part_number Frame → ⊥) → r ≡ plan_told state (plan_closing state room (closing_at 0 false p)) → r ≡ plan_told state (plan_between state file room p)
     unfolding plan
-    begins-closing other last h = rw (← is, ne_eqb _ _ other, ne_eqb _ _ last) h
+    begins_closing other last h = rw (← is, ne_eqb _ _ other, ne_eqb _ _ last) h
 
   -- THE PART THAT IS PLAYING
 
@@ -81,4 +81,4 @@ pub begins_closing_writes : (state : StreamPlayer) (file : List ℕ) (room : ℕ
     → (next.part ≡ part_number Opening → ⊥) → (next.part ≡ part_number Frame → ⊥) → q ≡ closing_at 0 false p → t ≡ closing_taken state.uses_si22 room q
     → taken_told state t ≡ plan_told state (plan_between state file room p)
 begins_closing_writes state file room p q t next is other last begun h =
-    begins-closing state file room p (taken_told state t) next is other last (closing_told state file room q t h ∙ ap (λ (x : Progress). plan_told state (plan_closing state room x)) begun)
+    begins_closing state file room p (taken_told state t) next is other last (closing_told state file room q t h ∙ ap (λ (x : Progress). plan_told state (plan_closing state room x)) begun)

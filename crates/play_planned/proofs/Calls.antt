@@ -29,13 +29,13 @@ pub refused_25 : (state : StreamPlayer) (file : List ℕ) (room number place : �
 unfolding call
 refused_25 state file room number place e = either state.progress.finished (belongs state file >> play state file room state.progress (part_of state.progress.part)) e
   where
-    as-25 : (x : Checked Played) → as25 x ≡ refused number place → (number ≡ 25) × (place ≡ 0)
-    as-25 (ok a) e = absurd (refused_not_ok (sym e))
-    as-25 (refused n p) e = (cc, cc)
+    as_25 : (x : Checked Played) → as25 x ≡ refused number place → (number ≡ 25) × (place ≡ 0)
+    as_25 (ok a) e = absurd (refused_not_ok (sym e))
+    as_25 (refused n p) e = (cc, cc)
 
     either : (b : Bool) (x : Checked Played) → cond b (ok (record { records = []; complete = true; next = state })) (as25 x) ≡ refused number place → (number ≡ 25) × (place ≡ 0)
     either true x e = absurd (refused_not_ok (sym e))
-    either false x e = as-25 x e
+    either false x e = as_25 x e
 
 module _ (state : StreamPlayer) (file : List ℕ) (run : List WriteRecord) where
   abbrev answer : Checked Played

@@ -28,7 +28,7 @@ use Rattle.play_store_segment.specs.Segment.{inserted, segment_stored}
 use Rattle.play_store_segment.proofs.Lists.{length_inserted}
 use Rattle.play_store.specs.Stored.{stored_from}
 use Rattle.play_store.proofs.Storing.{stored_none, stored_step}
-use Rattle.play_store.proofs.Taken.{taken-stored}
+use Rattle.play_store.proofs.Taken.{taken_stored}
 use Rattle.play_store.proofs.Parts.{Part, rest_of, Step, step_of, gathered_full, inserted_twice, playable, turn_stops, turn_goes}
 
 module _ (file : List ℕ) (state : StreamPlayer) (limit total : ℕ) (part : Part file state limit total) where
@@ -45,35 +45,35 @@ module _ (file : List ℕ) (state : StreamPlayer) (limit total : ℕ) (part : Pa
     writes : Writes file directory item.operation
     writes = (usable state file limit cursor item used).writes
 
-    rest-long : length (rest_of state file item done) ≡ count_of item.operation - done
-    rest-long = length-drop done (writes_with (bytes_at file directory) item.operation) ∙ ap (λ (k : ℕ). k - done) writes.count
+    rest_long : length (rest_of state file item done) ≡ count_of item.operation - done
+    rest_long = length-drop done (writes_with (bytes_at file directory) item.operation) ∙ ap (λ (k : ℕ). k - done) writes.count
 
-    done-small : done ≤ count_of item.operation
-    done-small = omega (arith, fits, writes.count)
+    done_small : done ≤ count_of item.operation
+    done_small = omega (arith, fits, writes.count)
 
     can : unplayable item.operation here.done ≡ false
-    can = rw (part.done_is left cursor done room) (playable item.operation done done-small (address_small state file limit cursor item used))
+    can = rw (part.done_is left cursor done room) (playable item.operation done done_small (address_small state file limit cursor item used))
 
     -- the turn, and the run after it
-    abbrev turnIs : (count : ℕ) → Place → Turn
-    turnIs count next = record { at = total - room; segment = segment_from file directory item.operation (address_of item.operation + done) done count; place = next }
+    abbrev turn_is : (count : ℕ) → Place → Turn
+    turn_is count next = record { at = total - room; segment = segment_from file directory item.operation (address_of item.operation + done) done count; place = next }
 
-    after : (count : ℕ) (next : Place) → turn file state here ≡ turnIs count next → count ≤ length (rest_of state file item done) → count ≤ room
+    after : (count : ℕ) (next : Place) → turn file state here ≡ turn_is count next → count ≤ length (rest_of state file item done) → count ≤ room
         → stored_from file state here run ≡ stored_from file state next (inserted (total - room) (take count (rest_of state file item done)) run)
     after count next is enough fit =
         stored_step file state here run (part.some left cursor done room)
         ∙ ap (λ (t : Turn). stored_from file state t.place (segment_stored file t.segment t.at run)) is
         ∙ ap (λ (l : List WriteRecord). stored_from file state next l)
-        (taken-stored file directory done count item.operation writes (omega (arith, rest-long, done-small)) (address_small state file limit cursor item used) (total - room) run (omega (arith, long)))
+        (taken_stored file directory done count item.operation writes (omega (arith, rest_long, done_small)) (address_small state file limit cursor item used) (total - room) run (omega (arith, long)))
 
     -- the room ends within the operation
     stops : room ≤ length (rest_of state file item done) → stored_from file state here run ≡ inserted (total - room) (take room (rest_of state file item done)) run
     stops enough = after room (stopped here) is enough (omega arith) ∙ stored_none file state (stopped here) _ refl
       where
-        is : turn file state here ≡ turnIs room (stopped here)
+        is : turn file state here ≡ turn_is room (stopped here)
         is =
             part.turns left cursor done room item (item_there state file limit cursor item used)
-            ∙ turn_stops file directory here item.operation item.next can (rw (part.done_is left cursor done room, part.room_is left cursor done room) (omega (arith, rest-long)))
+            ∙ turn_stops file directory here item.operation item.next can (rw (part.done_is left cursor done room, part.room_is left cursor done room) (omega (arith, rest_long)))
             ∙ rw (part.done_is left cursor done room, part.room_is left cursor done room, part.total_is left cursor done room)
 
     -- the operation is done, and the next one comes
@@ -84,10 +84,10 @@ module _ (file : List ℕ) (state : StreamPlayer) (limit total : ℕ) (part : Pa
         ∙ ap (λ (l : List WriteRecord). stored_from file state (part.place left item.next 0 (room - length (rest_of state file item done))) (inserted (total - room) l run))
         (take_all (length (rest_of state file item done)) (rest_of state file item done) (omega arith))
       where
-        is : turn file state here ≡ turnIs (length (rest_of state file item done)) (part.place left item.next 0 (room - length (rest_of state file item done)))
+        is : turn file state here ≡ turn_is (length (rest_of state file item done)) (part.place left item.next 0 (room - length (rest_of state file item done)))
         is =
             part.turns left cursor done room item (item_there state file limit cursor item used)
-            ∙ turn_goes file directory here item.operation item.next can (rw (part.done_is left cursor done room, part.room_is left cursor done room) (omega (arith, rest-long)))
+            ∙ turn_goes file directory here item.operation item.next can (rw (part.done_is left cursor done room, part.room_is left cursor done room) (omega (arith, rest_long)))
             ∙ ap (λ (t : ℕ). record {
               at = t - here.room;
               segment = segment_from file directory item.operation (address_of item.operation + here.done) here.done (count_of item.operation - here.done);
@@ -103,8 +103,8 @@ module _ (file : List ℕ) (state : StreamPlayer) (limit total : ℕ) (part : Pa
               segment = segment_from file directory item.operation (address_of item.operation + d) d (count_of item.operation - d);
               place = onward here item.next (count_of item.operation - d);
             }) (part.done_is left cursor done room)
-            ∙ ap (λ (p : Place). turnIs (count_of item.operation - done) p) (part.goes left cursor done room item.next (count_of item.operation - done))
-            ∙ ap (λ (k : ℕ). turnIs k (part.place left item.next 0 (room - k))) (sym rest-long)
+            ∙ ap (λ (p : Place). turn_is (count_of item.operation - done) p) (part.goes left cursor done room item.next (count_of item.operation - done))
+            ∙ ap (λ (k : ℕ). turn_is k (part.place left item.next 0 (room - k))) (sym rest_long)
 
   -- ALL OF THEM
 

@@ -63,8 +63,8 @@ module _ (file : List ℕ) (directory done n : ℕ) where
     abbrev writes : List WriteRecord
     writes = writes_with (bytes_at file directory) operation
 
-    records-are : records_of file (segment_at operation) n ≡ take n (drop done writes)
-    records-are =
+    records_are : records_of file (segment_at operation) n ≡ take n (drop done writes)
+    records_are =
         ext_get_or (write 0 0 0) _ _ (count ∙ sym taken) (λ i less. record_of_lem file (segment_at operation) n (within operation w fits) i _ (omega (arith, less, count)) ∙ each operation i ∙ sym (at i (omega (arith, less, count))))
       where
         count : length (records_of file (segment_at operation) n) ≡ n
@@ -77,11 +77,11 @@ module _ (file : List ℕ) (directory done n : ℕ) where
         at i less = get_or-take n (drop done writes) i _ less ∙ get_or-drop done writes i _ ∙ w.each (done + i) _ (omega (arith, less))
 
     -- the run with the writes in it
-    pub taken-stored : address_of operation + count_of operation ≤ 0x2000000 → (at : ℕ) (run : List WriteRecord) → at + n ≤ length run
+    pub taken_stored : address_of operation + count_of operation ≤ 0x2000000 → (at : ℕ) (run : List WriteRecord) → at + n ≤ length run
         → segment_stored file (segment_at operation) at run ≡ inserted at (take n (drop done writes)) run
-    taken-stored small at run room =
+    taken_stored small at run room =
         stored_all file (segment_at operation) at run (λ some. record {
           inside = omega (arith, size_is operation);
           addresses = omega (arith, size_is operation, address_is operation);
           bytes = λ copied. rw (size_is operation) (within operation w fits (omega (arith, some, size_is operation)) copied);
-        }) ∙ ap (λ (k : ℕ). inserted at (records_of file (segment_at operation) k) run) (size_is operation) ∙ ap (λ (l : List WriteRecord). inserted at l run) records-are
+        }) ∙ ap (λ (k : ℕ). inserted at (records_of file (segment_at operation) k) run) (size_is operation) ∙ ap (λ (l : List WriteRecord). inserted at l run) records_are

@@ -55,8 +55,8 @@ module _ {M : Type 1} {𝓤 : Ura M} (𝓛 : Logic 𝓤) (mem : Memory → SProp
   Fits = triple_of 𝓛 ft.signature (ft.spec 𝓛 mem run)
 
   module _ (room count : ℕ) where
-    abbrev pub to-fits : Fits.Ghost
-    to-fits = ((tt, tt, tt, (room, (count, tt)), (vint w64 room ∷ [], (vint w64 count ∷ [], tt))), tt)
+    abbrev pub to_fits : Fits.Ghost
+    to_fits = ((tt, tt, tt, (room, (count, tt)), (vint w64 room ∷ [], (vint w64 count ∷ [], tt))), tt)
 
     abbrev pub Told-fits : ℕ → SProp 𝓤
     Told-fits r = ensured 𝓛 ft.ended (ft.clauses 𝓛 mem run) tt (room, (count, tt)) tt r
@@ -64,8 +64,8 @@ module _ {M : Type 1} {𝓤 : Ura M} (𝓛 : Logic 𝓤) (mem : Memory → SProp
     pub said_fits : (r : ℕ) → ent 𝓤 (Told-fits r) (fact 𝓤 (r ≡ min room count))
     said_fits r = ex_e 𝓤 _ (λ ws. snd∗ 𝓤 (sem 𝓛 (lasts ft.ended tt (room, (count, tt)) ws)) (fact 𝓤 (r ≡ min room count)))
 
-    pub asks-fits : room < 2 ^ 64 → count < 2 ^ 64 → ent 𝓤 (emp 𝓤) (Fits.pre to-fits)
-    asks-fits room_fits count_fits =
+    pub asks_fits : room < 2 ^ 64 → count < 2 ^ 64 → ent 𝓤 (emp 𝓤) (Fits.pre to_fits)
+    asks_fits room_fits count_fits =
         qed 𝓛 [] ∵ nothing ! $ owned ! usize (Is usize) (uint_Makes 𝓛 w64) count _ (refl, count_fits) $ fjoin ! $
         owned ! usize (Is usize) (uint_Makes 𝓛 w64) room _ (refl, room_fits) $ fjoin ! $ nothing ! $ join ! $ nothing ! $ move ! (1 ∷ 0 ∷ []) $ join ! $ done !
 
@@ -75,17 +75,17 @@ module _ {M : Type 1} {𝓤 : Ura M} (𝓛 : Logic 𝓤) (mem : Memory → SProp
   First = triple_of 𝓛 fp.signature (fp.spec 𝓛 mem run)
 
   module _ (from made : ℕ) where
-    abbrev pub to-first : First.Ghost
-    to-first = ((tt, tt, tt, (from, (made, tt)), (vint w64 from ∷ [], (vint w32 made ∷ [], tt))), tt)
+    abbrev pub to_first : First.Ghost
+    to_first = ((tt, tt, tt, (from, (made, tt)), (vint w64 from ∷ [], (vint w32 made ∷ [], tt))), tt)
 
     abbrev pub Told-first : FillPlace → SProp 𝓤
     Told-first r = ensured 𝓛 fp.ended (fp.clauses 𝓛 mem run) tt (from, (made, tt)) tt r
 
-    pub said-first : (r : FillPlace) → ent 𝓤 (Told-first r) (fact 𝓤 (r ≡ fill_place from made))
-    said-first r = ex_e 𝓤 _ (λ ws. snd∗ 𝓤 (sem 𝓛 (lasts fp.ended tt (from, (made, tt)) ws)) (fact 𝓤 (r ≡ fill_place from made)))
+    pub said_first : (r : FillPlace) → ent 𝓤 (Told-first r) (fact 𝓤 (r ≡ fill_place from made))
+    said_first r = ex_e 𝓤 _ (λ ws. snd∗ 𝓤 (sem 𝓛 (lasts fp.ended tt (from, (made, tt)) ws)) (fact 𝓤 (r ≡ fill_place from made)))
 
-    pub asks-first : from < 2 ^ 64 → made < 2 ^ 32 → ent 𝓤 (emp 𝓤) (First.pre to-first)
-    asks-first from-fits made-fits =
+    pub asks_first : from < 2 ^ 64 → made < 2 ^ 32 → ent 𝓤 (emp 𝓤) (First.pre to_first)
+    asks_first from-fits made-fits =
         qed 𝓛 [] ∵ nothing ! $ owned ! u32 (Is u32) (uint_Makes 𝓛 w32) made _ (refl, made-fits) $ fjoin ! $
         owned ! usize (Is usize) (uint_Makes 𝓛 w64) from _ (refl, from-fits) $ fjoin ! $ nothing ! $ join ! $ nothing ! $ move ! (1 ∷ 0 ∷ []) $ join ! $ done !
 
@@ -95,17 +95,17 @@ module _ {M : Type 1} {𝓤 : Ura M} (𝓛 : Logic 𝓤) (mem : Memory → SProp
   Next = triple_of 𝓛 nf.signature (nf.spec 𝓛 mem run)
 
   module _ (κ : Lft) (q : Share) (x : Bor (List ℕ)) (version : ℕ) (p : FillPlace) where
-    abbrev pub to-next : Next.Ghost
-    to-next = (((κ, tt), (q, tt), tt, (x, (version, (p, tt))), (file_at x ∷ [], (vint w8 version ∷ [], (LL.vals F.the_type F'.the_laws p, tt)))), tt)
+    abbrev pub to_next : Next.Ghost
+    to_next = (((κ, tt), (q, tt), tt, (x, (version, (p, tt))), (file_at x ∷ [], (vint w8 version ∷ [], (LL.vals F.the_type F'.the_laws p, tt)))), tt)
 
     abbrev pub Told-next : FillPlace → SProp 𝓤
     Told-next r = ensured 𝓛 nf.ended (nf.clauses 𝓛 mem run) (κ, tt) (x, (version, (p, tt))) tt r
 
-    pub said-next : (r : FillPlace) → ent 𝓤 (Told-next r) (fact 𝓤 (r ≡ next_fill x.now version p))
-    said-next r = ex_e 𝓤 _ (λ ws. snd∗ 𝓤 (sem 𝓛 (lasts nf.ended (κ, tt) (x, (version, (p, tt))) ws)) (fact 𝓤 (r ≡ next_fill x.now version p)))
+    pub said_next : (r : FillPlace) → ent 𝓤 (Told-next r) (fact 𝓤 (r ≡ next_fill x.now version p))
+    said_next r = ex_e 𝓤 _ (λ ws. snd∗ 𝓤 (sem 𝓛 (lasts nf.ended (κ, tt) (x, (version, (p, tt))) ws)) (fact 𝓤 (r ≡ next_fill x.now version p)))
 
-    pub asks-next : version < 2 ^ 8 → Fitting p → ent 𝓤 (sep 𝓤 (A.lft κ q) (sem 𝓛 (File κ x))) (Next.pre to-next)
-    asks-next version-fits fit =
+    pub asks_next : version < 2 ^ 8 → Fitting p → ent 𝓤 (sep 𝓤 (A.lft κ q) (sem 𝓛 (File κ x))) (Next.pre to_next)
+    asks_next version-fits fit =
         qed 𝓛 (‵ (flft κ q) ∷ ‵ (File κ x) ∷ []) ∵ nothing ! $ owned ! F.the_row (Is F.the_row) ((LL.makes F.the_type F'.the_plain) 𝓛) p _ fit $ fjoin ! $
         owned ! u8 (Is u8) (uint_Makes 𝓛 w8) version _ (refl, version-fits) $ fjoin ! $ move ! (2 ∷ 0 ∷ []) $ fjoin ! $ nothing ! $ move ! (2 ∷ 0 ∷ []) $ join ! $
         nothing ! $ move ! (1 ∷ 2 ∷ 0 ∷ []) $ join ! $ join ! $ done !

@@ -39,11 +39,11 @@ module _ (file : List ℕ) (version from made : ℕ) where
     abbrev pub pasted : (i : ℕ) → List WriteRecord
     pasted i = front.pasted records run i
 
-    pub pasted-long : (i : ℕ) → i ≤ n → length (pasted i) ≡ length run
-    pasted-long i few = front.pasted_long records run fits i (rw (records_long file version n (fill_place from made)) few)
+    pub pasted_long : (i : ℕ) → i ≤ n → length (pasted i) ≡ length run
+    pasted_long i few = front.pasted_long records run fits i (rw (records_long file version n (fill_place from made)) few)
 
-    pub pasted-next : (i : ℕ) → i < n → set (pasted i) i (record_of (placed (i + 1))) ≡ pasted (i + 1)
-    pasted-next i less =
+    pub pasted_next : (i : ℕ) → i < n → set (pasted i) i (record_of (placed (i + 1))) ≡ pasted (i + 1)
+    pasted_next i less =
         front.pasted_next records run fits i (record_of (placed (i + 1))) (rw (records_long file version n (fill_place from made)) less)
         (record_at_lem file version n (fill_place from made) i (record_of (placed (i + 1))) less ∙ ap record_of (placed_next i))
 
@@ -52,6 +52,6 @@ module _ (file : List ℕ) (version from made : ℕ) where
     stored_is = front.pasted_all records run fits n (sym (records_long file version n (fill_place from made)))
 
     -- the run keeps its length
-    pub stored-long : length (fills_stored file version from made count run) ≡ length run
+    pub stored_long : length (fills_stored file version from made count run) ≡ length run
     unfolding fills_stored
-    stored-long = front.stored_long records run fits
+    stored_long = front.stored_long records run fits

@@ -14,7 +14,7 @@ use Rattle.base_format.proofs.Checks.{refused_not_ok}
 use Rattle.base_master.specs.Places.{records_at}
 use Rattle.base_master.specs.Result.{pcm_from}
 use Rattle.repack_ordered.specs.Answer.{Taken}
-use Rattle.repack_ordered.proofs.Answers.{version_is, stream-one, opening-is}
+use Rattle.repack_ordered.proofs.Answers.{version_is, stream_one, opening_is}
 
 -- a refused file
 pub not_read : (file : List ℕ) (room number place : ℕ) → read file ≡ refused number place → repack_into file room ≡ refused number place
@@ -27,9 +27,9 @@ module _ (file : List ℕ) (s : Stream) (reads : read file ≡ ok s) (room : ℕ
   not_master other = rw (reads, ne_eqb s.version 1 other)
 
   module _ (one : s.version ≡ 1) where
-    pub not-ordered : in_order 0 (to_pcm s.opening) ≡ false → repack_into file room ≡ refused 22 0
+    pub not_ordered : in_order 0 (to_pcm s.opening) ≡ false → repack_into file room ≡ refused 22 0
     unfolding repack_into repack
-    not-ordered wrong = rw (reads, eq-eqb s.version 1 one, wrong)
+    not_ordered wrong = rw (reads, eq-eqb s.version 1 one, wrong)
 
 -- ---- a master by its header
 
@@ -49,4 +49,4 @@ module _ {file : List ℕ} {header : Header} (t : Taken file header) where
   module _ (one : header.version ≡ 1) where
     pub out_of_order : (room : ℕ) → pcm_from 0 (records_at file header.initial_count 20) ≡ refused 22 0 → repack_into file room ≡ refused 22 0
     out_of_order room e =
-        not-ordered file t.stream t.reads room (stream-one t one) (ap (λ (l : List Operation). in_order 0 (to_pcm l)) (opening-is t one) ∙ pcm_refused (records_at file header.initial_count 20) e)
+        not_ordered file t.stream t.reads room (stream_one t one) (ap (λ (l : List Operation). in_order 0 (to_pcm l)) (opening_is t one) ∙ pcm_refused (records_at file header.initial_count 20) e)

@@ -195,27 +195,27 @@ module _ {file : List ℕ} {header : Header} {places spots numbers : List ℕ} {
   -- ---- places
 
   module _ {l : Layout} (e : l ≡ layout) where
-    opening-at : l.opening ≡ l.payloads + (pcm + waves * 256)
+    opening_at : l.opening ≡ l.payloads + (pcm + waves * 256)
     unfolding layout_of
     opening_at = rw e
 
-    payloads-at : l.payloads ≡ 40 + (pcm_pool pcm + waves) * 16
+    payloads_at : l.payloads ≡ 40 + (pcm_pool pcm + waves) * 16
     unfolding layout_of
     payloads_at = rw e
 
-    pub frames-at : l.frames ≡ l.opening + length (opening_part file records pcm)
+    pub frames_at : l.frames ≡ l.opening + length (opening_part file records pcm)
     unfolding layout_of
     frames_at = rw (e, opening_size)
 
-    pub total-at : l.total ≡ l.frames + length (frame_bytes (pcm_pool pcm) found file frames start)
+    pub total_at : l.total ≡ l.frames + length (frame_bytes (pcm_pool pcm) found file frames start)
     unfolding layout_of
-    total-at = rw (e, frames_size)
+    total_at = rw (e, frames_size)
 
     pub parts_are : written (repacked (master_of file header)) ≡ front_of file header pcm waves l places ++ rest
     parts_are = written_is ∙ ap (λ (x : Layout). front_of file header pcm waves x places ++ rest) (sym e)
 
-    pub total-is : length (written (repacked (master_of file header))) ≡ l.total
-    total-is = written_size ∙ ap (λ (x : Layout). x.total) (sym e)
+    pub total_is : length (written (repacked (master_of file header))) ≡ l.total
+    total_is = written_size ∙ ap (λ (x : Layout). x.total) (sym e)
 
     pub front_fits : (buffer : List ℕ) → l.total ≤ 0xE00000 → l.total ≤ length buffer → FrontFits file header pcm waves l places buffer
     front_fits buffer small room =
@@ -225,12 +225,12 @@ module _ {file : List ℕ} {header : Header} {places spots numbers : List ℕ} {
           pcm_is = known.pcm_is;
           records_fit = known.opening_fits;
           waves_inside = (known.measured.few, known.measured.inside);
-          payloads_at = payloads-at;
-          opening_at = opening-at;
-          frames_at = omega (arith, frames-at);
-          end_at = omega (arith, total-at);
-          few = omega (arith, total-at, frames-at, opening-at, payloads-at);
-          less = omega (arith, total-at, frames-at, rw write_six at opening_size, fills_few pcm, copies_few pcm);
+          payloads_at = payloads_at;
+          opening_at = opening_at;
+          frames_at = omega (arith, frames_at);
+          end_at = omega (arith, total_at);
+          few = omega (arith, total_at, frames_at, opening_at, payloads_at);
+          less = omega (arith, total_at, frames_at, rw write_six at opening_size, fills_few pcm, copies_few pcm);
           small = small;
           room = room;
         }

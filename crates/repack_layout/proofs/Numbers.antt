@@ -65,8 +65,8 @@ module _ {file : List ℕ} {header : Header} {pcm waves : ℕ} {layout : Layout}
   pub front_size : length (front_of file header pcm waves layout places) ≡ layout.opening
   unfolding front_of
   front_size =
-      four-size (bytes_of_all (header_fields (new_header header layout))) (directory_of pcm waves layout.payloads) (pcm_bytes file header.initial_count 20) (waves_bytes file places 0 waves)
+      four_size (bytes_of_all (header_fields (new_header header layout))) (directory_of pcm waves layout.payloads) (pcm_bytes file header.initial_count 20) (waves_bytes file places 0 waves)
       ∙ omega (arith, header_long header layout, directory_long pcm waves layout.payloads, fits.pcm_is, waves_size file places 0 waves, fits.payloads_at, fits.opening_at)
     where
-      four-size : (a b c d : List ℕ) → length (a ++ (b ++ (c ++ d))) ≡ length a + (length b + (length c + length d))
-      four-size a b c d = simp length-append
+      four_size : (a b c d : List ℕ) → length (a ++ (b ++ (c ++ d))) ≡ length a + (length b + (length c + length d))
+      four_size a b c d = simp length-append

@@ -19,7 +19,7 @@ use Rattle.base_master.proofs.Master.{frames_behind}
 use Rattle.base_master.proofs.Result.{all_next, size_frame}
 use Rattle.base_master.proofs.Uses.{all_uses_next}
 use Rattle.repack_wave_table.specs.Table.{waves_in, Added}
-use Rattle.base_format.proofs.Known.{added_place, added_has, added-keeps-place, added-keeps}
+use Rattle.base_format.proofs.Known.{added_place, added_has, added_keeps_place, added_keeps}
 use Rattle.repack_measure.specs.Measured.{Notes, notes, notes_with, notes_over, Noted, MeasuredFrame}
 
 -- ---- a use
@@ -40,19 +40,19 @@ module _ {file places spots numbers : List ℕ} {waves uses : ℕ} (n : Noted fi
           numbers_size = length-set numbers uses number ∙ n.numbers_size;
           few = omega arith;
           rest = λ k h. get_or-set_other spots uses k at 0 (λ e. omega arith) ∙ n.rest k (omega arith);
-          small = λ k. low-at k (ℕ_discrete k uses);
+          small = λ k. low_at k (ℕ_discrete k uses);
           known =
               below_more (λ (k : ℕ). is_known (waves_in file places' waves') (wave_at file (get_or spots' k 0)) ≡ true) uses
-              (λ k less. rw (kept k less, a.waves) (added-keeps known bytes (wave_at file (get_or spots k 0)) (n.known k less))) (rw (last, a.waves) (added_has known bytes));
+              (λ k less. rw (kept k less, a.waves) (added_keeps known bytes (wave_at file (get_or spots k 0)) (n.known k less))) (rw (last, a.waves) (added_has known bytes));
           numbers_are =
               below_more (λ (k : ℕ). get_or numbers' k 0 ≡ place_of (waves_in file places' waves') (wave_at file (get_or spots' k 0))) uses
-              (λ k less. rw (get_or-set_other numbers uses k number 0 (λ e. omega arith), kept k less, a.waves, added-keeps-place known bytes (wave_at file (get_or spots k 0)) (n.known k less)) (n.numbers_are k less))
+              (λ k less. rw (get_or-set_other numbers uses k number 0 (λ e. omega arith), kept k less, a.waves, added_keeps_place known bytes (wave_at file (get_or spots k 0)) (n.known k less)) (n.numbers_are k less))
               (rw (get_or-set_same numbers uses number 0 (omega (arith, n.numbers_size)), last, a.waves, added_place known bytes) a.number_is);
         }
       where
-        low-at : (k : ℕ) → Dec (k ≡ uses) → get_or (set numbers uses number) k 0 ≤ 11468
-        low-at k (yes same) = rw (same, get_or-set_same numbers uses number 0 (omega (arith, n.numbers_size))) low
-        low-at k (no other) = rw (get_or-set_other numbers uses k number 0 other) (n.small k)
+        low_at : (k : ℕ) → Dec (k ≡ uses) → get_or (set numbers uses number) k 0 ≤ 11468
+        low_at k (yes same) = rw (same, get_or-set_same numbers uses number 0 (omega (arith, n.numbers_size))) low
+        low_at k (no other) = rw (get_or-set_other numbers uses k number 0 other) (n.small k)
 
   pub taken_more : (at : ℕ) → uses < 11468 → (rest : List ℕ) → take uses spots ++ (at ∷ rest) ≡ take (uses + 1) (set spots uses at) ++ rest
   taken_more at room rest =

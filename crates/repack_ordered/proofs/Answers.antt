@@ -71,20 +71,20 @@ module _ {file : List ℕ} {header : Header} (t : Taken file header) where
   version_is = (accepted file t.stream t.reads).0.version ∙ ap (λ (h : Header). h.version) (sym t.header_is)
 
   module _ (one : header.version ≡ 1) where
-    pub stream-one : t.stream.version ≡ 1
-    stream-one = version_is ∙ one
+    pub stream_one : t.stream.version ≡ 1
+    stream_one = version_is ∙ one
 
     master : IsMaster file t.stream
-    master = is_master file t.stream t.reads stream-one
+    master = is_master file t.stream t.reads stream_one
 
     pub lies : Lies file header
     lies = subst (Lies file) (sym t.header_is) master.lies
 
-    pub repacked-is : repacked t.stream ≡ repacked (master_of file header)
-    repacked-is = repacked_master file t.stream master ∙ ap (λ (h : Header). repacked (master_of file h)) (sym t.header_is)
+    pub repacked_is : repacked t.stream ≡ repacked (master_of file header)
+    repacked_is = repacked_master file t.stream master ∙ ap (λ (h : Header). repacked (master_of file h)) (sym t.header_is)
 
-    pub opening-is : t.stream.opening ≡ records_at file header.initial_count 20
-    opening-is = master.opening ∙ ap (λ (h : Header). records_at file h.initial_count 20) (sym t.header_is)
+    pub opening_is : t.stream.opening ≡ records_at file header.initial_count 20
+    opening_is = master.opening ∙ ap (λ (h : Header). records_at file h.initial_count 20) (sym t.header_is)
 
 -- a master whose PCM records run in order
 module _ {file : List ℕ} {header : Header} {pcm : ℕ} (o : Ordered file header pcm) where
@@ -102,19 +102,19 @@ module _ {file : List ℕ} {header : Header} {pcm : ℕ} (o : Ordered file heade
       record { pcm_is = pcm_length; measured = measured; opening_fits = here.opening_fits; frames_fit = here.frames_fit; small = here.small }
 
   ordered : in_order 0 (to_pcm o.taken.stream.opening) ≡ true
-  ordered = ap (λ (l : List Operation). in_order 0 (to_pcm l)) (opening-is o.taken o.one) ∙ (pcm_said (records_at file header.initial_count 20) pcm o.run).0
+  ordered = ap (λ (l : List Operation). in_order 0 (to_pcm l)) (opening_is o.taken o.one) ∙ (pcm_said (records_at file header.initial_count 20) pcm o.run).0
 
   abbrev pub result : List ℕ
   result = written (repacked (master_of file header))
 
   same : written (repacked o.taken.stream) ≡ result
-  same = ap written (repacked-is o.taken o.one)
+  same = ap written (repacked_is o.taken o.one)
 
   pub long_result : (room : ℕ) → 0xE00000 < length result → repack_into file room ≡ refused 23 0
-  long_result room h = too_long_lem file o.taken.stream o.taken.reads room (stream-one o.taken o.one) ordered (rw same h)
+  long_result room h = too_long_lem file o.taken.stream o.taken.reads room (stream_one o.taken o.one) ordered (rw same h)
 
   pub short_room : (room : ℕ) → length result ≤ 0xE00000 → room < length result → repack_into file room ≡ refused 24 0
-  short_room room small h = no_room file o.taken.stream o.taken.reads room (stream-one o.taken o.one) ordered (rw same small) (rw same h)
+  short_room room small h = no_room file o.taken.stream o.taken.reads room (stream_one o.taken o.one) ordered (rw same small) (rw same h)
 
   pub the_result : (room : ℕ) → length result ≤ 0xE00000 → length result ≤ room → repack_into file room ≡ ok result
-  the_result room small h = result_is file o.taken.stream o.taken.reads room (stream-one o.taken o.one) ordered (rw same small) (rw same h) ∙ ap ok same
+  the_result room small h = result_is file o.taken.stream o.taken.reads room (stream_one o.taken o.one) ordered (rw same small) (rw same h) ∙ ap ok same

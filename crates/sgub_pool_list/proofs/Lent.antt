@@ -150,8 +150,8 @@ module _ (x : Lent) where
     pub inside : i.0 < length x.ys
     inside = omega (arith, less)
 
-    pub i-fits : i.0 < 2 ^ 64
-    i-fits = omega (arith, inside, x.room.0)
+    pub i_fits : i.0 < 2 ^ 64
+    i_fits = omega (arith, inside, x.room.0)
 
     pub next_fits : i.0 + 1 < 2 ^ 64
     next_fits = omega (arith, inside, x.room.0)
@@ -159,11 +159,11 @@ module _ (x : Lent) where
     pub bytes_fit : i.0 * 12 < 2 ^ 64
     bytes_fit = omega (arith, inside, x.room.1)
 
-    pub id-fits : i.0 < 2 ^ 32
-    id-fits = omega (arith, less, x.cnt_fits)
+    pub id_fits : i.0 < 2 ^ 32
+    id_fits = omega (arith, less, x.cnt_fits)
 
-    pub inside-now : i.0 < length (ps i.0)
-    inside-now = subst (λ (k : ℕ). i.0 < k) (sym (pasted_long x.bs x.dir x.cnt x.ys i.0 i.1)) inside
+    pub inside_now : i.0 < length (ps i.0)
+    inside_now = subst (λ (k : ℕ). i.0 < k) (sym (pasted_long x.bs x.dir x.cnt x.ys i.0 i.1)) inside
 
     abbrev pub next : Upto
     next = (i.0 + 1, add-one-le less)
@@ -207,9 +207,9 @@ module _ {M : Type 1} {𝓤 : Ura M} (𝓛 : Logic 𝓤) (mem : Memory → SProp
 
   pub asks_nth : (i : Upto x) → i.0 < n x → ent 𝓤 (sep 𝓤 (A.lft x.κ₂ x.q₂) (sem 𝓛 (File x))) ((Nth 𝓛 mem run).pre (to_nth 𝓛 mem run x i))
   asks_nth i less =
-      qed 𝓛 (‵ (flft x.κ₂ x.q₂) ∷ ‵ (File x) ∷ []) ∵ nothing ! $ owned ! usize (Is usize) (uint_Makes 𝓛 w64) i.0 _ (refl, i-fits x i less) $ fjoin ! $
+      qed 𝓛 (‵ (flft x.κ₂ x.q₂) ∷ ‵ (File x) ∷ []) ∵ nothing ! $ owned ! usize (Is usize) (uint_Makes 𝓛 w64) i.0 _ (refl, i_fits x i less) $ fjoin ! $
       owned ! u32 (Is u32) (uint_Makes 𝓛 w32) x.dir _ (refl, x.dir_fits) $ fjoin ! $ move ! (2 ∷ 0 ∷ []) $ fjoin ! $ nothing ! $ move ! (2 ∷ 0 ∷ []) $ join ! $
-      use0 𝓛 (raw (fact 𝓤 (i.0 < 2 ^ 32))) (fact_i 𝓤 (i.0 < 2 ^ 32) (emp 𝓤) (id-fits x i less)) $
+      use0 𝓛 (raw (fact 𝓤 (i.0 < 2 ^ 32))) (fact_i 𝓤 (i.0 < 2 ^ 32) (emp 𝓤) (id_fits x i less)) $
       move ! (1 ∷ 2 ∷ 0 ∷ []) $ join ! $ join ! $ done !
 
   -- the file's token; the run's borrow, closed at the last list; the run's token; the file

@@ -22,22 +22,22 @@ module _ (file : List ℕ) where
       rw none
 
   module _ (state : StreamPlayer) where
-    pub turns-step : (turns : ℕ) (place : Place) (sum : ℕ) → 0 < turns → eqb place.left 0 ≡ false
+    pub turns_step : (turns : ℕ) (place : Place) (sum : ℕ) → 0 < turns → eqb place.left 0 ≡ false
         → mixed_in turns file state place sum ≡ mixed_in (turns - 1) file state (turn file state place).place (segment_mixed file (turn file state place).segment (turn file state place).at sum)
     unfolding mixed_in
-    turns-step turns place sum h some =
+    turns_step turns place sum h some =
         let one : turns ≡ suc (turns - 1) = omega arith in
         let less : suc (turns - 1) - 1 ≡ turns - 1 = omega arith in
         rw (one, less, some)
 
-    pub turns-end : (turns : ℕ) (place : Place) (sum : ℕ) → 0 < turns → eqb place.left 0 ≡ true → mixed_in turns file state place sum ≡ sum
+    pub turns_end : (turns : ℕ) (place : Place) (sum : ℕ) → 0 < turns → eqb place.left 0 ≡ true → mixed_in turns file state place sum ≡ sum
     unfolding mixed_in
-    turns-end turns place sum h none =
+    turns_end turns place sum h none =
         let one : turns ≡ suc (turns - 1) = omega arith in
         rw (one, none)
 
-    pub turns-over : (turns : ℕ) (place : Place) (sum : ℕ) → turns ≤ 0 → mixed_in turns file state place sum ≡ sum
+    pub turns_over : (turns : ℕ) (place : Place) (sum : ℕ) → turns ≤ 0 → mixed_in turns file state place sum ≡ sum
     unfolding mixed_in
-    turns-over turns place sum h =
+    turns_over turns place sum h =
         let none : turns ≡ 0 = omega arith in
         rw none

@@ -16,7 +16,7 @@ use Rattle.base_format.specs.Repack.{Piece, wave, single, address, value, runs, 
 use Rattle.base_format.specs.Writes.{write, target_number, upward, writes_with, writes_of, writes_of_all}
 use Rattle.base_round_trip.proofs.Each.{each_map, each_append}
 use Rattle.base_format.proofs.Checks.{and_true}
-use Rattle.base_format.proofs.Known.{added_has, added-keeps}
+use Rattle.base_format.proofs.Known.{added_has, added_keeps}
 use Rattle.base_format.proofs.Writes.{writes_append}
 
 -- the records of a master
@@ -29,7 +29,7 @@ distinct_keeps : (known : List (List ℕ)) (ps : List Piece) (bytes : List ℕ) 
 unfolding distinct
 distinct_keeps known [] bytes e = e
 distinct_keeps known (single operation ∷ ps) bytes e = distinct_keeps known ps bytes e
-distinct_keeps known (wave target a w ∷ ps) bytes e = distinct_keeps (added known w) ps bytes (added-keeps known w bytes e)
+distinct_keeps known (wave target a w ∷ ps) bytes e = distinct_keeps (added known w) ps bytes (added_keeps known w bytes e)
 
 waves_keep : (known : List (List ℕ)) (frames : List (List Operation)) (bytes : List ℕ) → is_known known bytes ≡ true → is_known (waves_of known frames) bytes ≡ true
 unfolding waves_of

@@ -20,31 +20,26 @@ use Rattle.compare_segment.proofs.segment_at.Tie as tie
 given : (file bytes : List ℕ) (at width : ℕ) (item : Decoded) → bytes ≡ part file at operation_most → width ≡ address_width 2 → item ≡ decoded_operation width bytes → item ≡ numbers_at file at
 given file bytes at width item b w e = e ∙ ap₂ decoded_operation w b
 
-sub_t10 : tie.Need-overflow-sub-t10
+sub_t10 : tie.Need-overflow_sub-result
 sub_t10 c =
-    let o = c.before.before.before in
-    let width = o.before.address-width.ensures in
-    let known : o.decode-operation.result.opcode ≤ 2 = omega (arith, c.if1.true) in
-    let some = size_some _ _ width.1 width.2 (rw o.decode-operation.ensures.0 at known) in
-    omega (arith, rw (← o.decode-operation.ensures.0) at some)
+    let width = c.address_width.ensures in
+    let known : c.decode_operation-item.result.opcode ≤ 2 = omega (arith, c.if-item-lt2.true) in
+    let some = size_some _ _ width.1 width.2 (rw c.decode_operation-item.ensures.0 at known) in
+    omega (arith, rw (← c.decode_operation-item.ensures.0) at some)
 
-returns : tie.Need-returns
+returns : tie.Need-returns-then-item-lt2
 unfolding segment_at
 returns c =
-    let o = c.before.before.before in
-    let bytes = o.before.before in
-    let a = bytes.before.before.args in
-    let is = given a.file.now _ a.at _ _ bytes.item-bytes.ensures o.before.address-width.ensures.0 o.decode-operation.ensures.0 in
-    (rw (← is, lt-ltb _ _ c.if1.true), omega arith)
+    let a = c.args in
+    let is = given a.file.now _ a.at _ _ c.item_bytes.ensures c.address_width.ensures.0 c.decode_operation-item.ensures.0 in
+    (rw (← is, lt-ltb _ _ c.if-item-lt2.true), omega arith)
 
-returns_2 : tie.Need-returns-2
+returns_2 : tie.Need-returns
 unfolding segment_at
 returns_2 c =
-    let o = c.before.before.before.before in
-    let bytes = o.before.before in
-    let a = bytes.before.before.args in
-    let is = given a.file.now _ a.at _ _ bytes.item-bytes.ensures o.before.address-width.ensures.0 o.decode-operation.ensures.0 in
-    (rw (← is, le-ltb _ _ c.before.if1.false, ← c.copy-source.ensures.0), omega (arith, c.copy-source.ensures.1))
+    let a = c.args in
+    let is = given a.file.now _ a.at _ _ c.item_bytes.ensures c.address_width.ensures.0 c.decode_operation-item.ensures.0 in
+    (rw (← is, le-ltb _ _ c.if-item-lt2.false, ← c.copy_source-source.ensures.0), omega (arith, c.copy_source-source.ensures.1))
 
 pub segment_at_spec : {M : Type 1} → statement M
 segment_at_spec = tie.close (tie.spec (search rules) (search rules) (search rules) (search rules) sub_t10 returns (search rules) returns_2)

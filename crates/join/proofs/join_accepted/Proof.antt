@@ -1,7 +1,7 @@
 -- `join::join_accepted` meets its contract: each test that is not passed is the answer, in the order of the definition; else the result is written.
 use borrow.Author.Rules.{rules}
 use native.Mathlib.Omega.{arith}
-use Rattle.join.proofs.Answers.{headers_room, by_29, by-30, by-23, by-24, writable, writes}
+use Rattle.join.proofs.Answers.{headers_room, by_29, by_30, by_23, by_24, writable, writes}
 use Rattle.join.proofs.join_accepted.Statement.{statement}
 use Rattle.join.proofs.join_accepted.Tie as tie
 
@@ -20,7 +20,7 @@ returns_2 c =
     let k = r.before.before in
     let s = k.before.before in
     let a = s.args in
-    by-30 a.first.now a.second.now a.header a.second-header s.requires (λ i. (k.before.shared-slice-known.given i).fits) (λ i. (k.shared-slice-known2.given i).fits) _
+    by_30 a.first.now a.second.now a.header a.second-header s.requires (λ i. (k.before.shared-slice-known.given i).fits) (λ i. (k.shared-slice-known2.given i).fits) _
     r.read-u16.ensures a.buffer.now c.before.before.if1.false c.before.if2.true c.refused2.ensures
 
 sub_size : tie.Need-overflow-sub-size
@@ -41,7 +41,7 @@ returns_3 c =
     let k = r.before.before in
     let s = k.before.before in
     let a = s.args in
-    by-23 a.first.now a.second.now a.header a.second-header s.requires (λ i. (k.before.shared-slice-known.given i).fits) (λ i. (k.shared-slice-known2.given i).fits) _
+    by_23 a.first.now a.second.now a.header a.second-header s.requires (λ i. (k.before.shared-slice-known.given i).fits) (λ i. (k.shared-slice-known2.given i).fits) _
     r.read-u16.ensures a.buffer.now c.before.before.before.if1.false c.before.before.if2.false c.before.if3.true c.refused3.ensures
 
 returns_4 : tie.Need-returns-4
@@ -50,7 +50,7 @@ returns_4 c =
     let k = r.before.before in
     let s = k.before.before in
     let a = s.args in
-    by-24 a.first.now a.second.now a.header a.second-header s.requires (λ i. (k.before.shared-slice-known.given i).fits) (λ i. (k.shared-slice-known2.given i).fits) _
+    by_24 a.first.now a.second.now a.header a.second-header s.requires (λ i. (k.before.shared-slice-known.given i).fits) (λ i. (k.shared-slice-known2.given i).fits) _
     r.read-u16.ensures a.buffer.now
     c.before.before.before.before.if1.false c.before.before.before.if2.false c.before.before.if3.false c.before.if4.true c.refused4.ensures
 

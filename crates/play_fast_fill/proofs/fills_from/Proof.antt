@@ -10,7 +10,7 @@ use Rattle.bytes_operation.specs.Decoded.{decoded_operation}
 use Rattle.bytes_operation_known.proofs.Laws.{fill_size_lem}
 use Rattle.play_fast_fill.specs.Fills.{count_at, fills_from}
 use Rattle.play_fast_fill.proofs.Counts.{counted, count_within, count_past}
-use Rattle.play_fast_fill.proofs.Steps.{fills_end, fills_full, fills-none, fills-step}
+use Rattle.play_fast_fill.proofs.Steps.{fills_end, fills_full, fills_none, fills_step}
 use Rattle.play_fast_fill.proofs.fills_from.Statement.{statement}
 use Rattle.play_fast_fill.proofs.fills_from.Tie as tie
 
@@ -61,7 +61,7 @@ returns_2 c =
     let a = l.before.before.args in
     let past = count_past a.file.now a.width a.starts.now a.ends.now a.limit l.loop.at (sym p.passes.ensures ∙ c.before.if2.true) in
     let none : leb (count_on l) l.loop.done ≡ true = rw past (le-leb 0 l.loop.done (omega arith)) in
-    rw (l.loop.invariant, fills-none a.file.now a.width a.starts.now a.ends.now a.limit l.loop.others l.loop.free l.loop.at l.loop.done (omega arith) (omega arith) none) c.stopped-at2.ensures
+    rw (l.loop.invariant, fills_none a.file.now a.width a.starts.now a.ends.now a.limit l.loop.others l.loop.free l.loop.at l.loop.done (omega arith) (omega arith) none) c.stopped-at2.ensures
 
 window_requires : tie.Need-window-requires invariant_loop decreases_loop
 window_requires c κs = omega (arith, whole c)
@@ -72,14 +72,14 @@ returns_3 c =
     let l = q.before.before.before.before.before.before in
     let a = l.before.before.args in
     let none : leb (count_on l) l.loop.done ≡ true = rw (said q, le-leb _ _ c.before.if3.true) in
-    rw (l.loop.invariant, fills-none a.file.now a.width a.starts.now a.ends.now a.limit l.loop.others l.loop.free l.loop.at l.loop.done (omega arith) (omega arith) none) c.stopped-at3.ensures
+    rw (l.loop.invariant, fills_none a.file.now a.width a.starts.now a.ends.now a.limit l.loop.others l.loop.free l.loop.at l.loop.done (omega arith) (omega arith) none) c.stopped-at3.ensures
 
 returns_4 : tie.Need-returns-4 invariant_loop decreases_loop
 returns_4 c =
     let e = c.before.before in
     let l = e.before.before.before.before.before.before.before in
     let a = l.before.before.args in
-    let step = fills-step a.file.now a.width a.starts.now a.ends.now a.limit l.loop.others l.loop.free l.loop.at l.loop.done (omega arith) (omega arith) (taken e) in
+    let step = fills_step a.file.now a.width a.starts.now a.ends.now a.limit l.loop.others l.loop.free l.loop.at l.loop.done (omega arith) (omega arith) (taken e) in
     rw (l.loop.invariant, step, said e.before, lt-ltb _ _ c.before.if4.true) c.stopped-at4.ensures
 
 add_at : tie.Need-overflow-add-at invariant_loop decreases_loop
@@ -101,7 +101,7 @@ loop_again c =
     let w = e.before.before in
     let l = w.before.before.before.before.before in
     let a = l.before.before.args in
-    let step = fills-step a.file.now a.width a.starts.now a.ends.now a.limit l.loop.others l.loop.free l.loop.at l.loop.done (omega arith) (omega arith) (taken e) in
+    let step = fills_step a.file.now a.width a.starts.now a.ends.now a.limit l.loop.others l.loop.free l.loop.at l.loop.done (omega arith) (omega arith) (taken e) in
     let sized = c.fill-size-in.ensures.0 ∙ fill_size_lem a.width w.window.result.now (low e) (omega arith) (omega arith) in
     rw (l.loop.invariant, step, said e.before, le-ltb _ _ f.if4.false, sized, w.window.ensures)
 

@@ -157,8 +157,8 @@ module _ {M : Type 1} {𝓤 : Ura M} (𝓛 : Logic 𝓤) (mem : Memory → SProp
       nothing ! $ move ! (3 ∷ 0 ∷ []) $ join ! $ move ! (2 ∷ 0 ∷ []) $ join ! $ nothing ! $ move ! (1 ∷ 2 ∷ 0 ∷ []) $ join ! $ join ! $ done !
 
   module _ (zs : List WriteRecord) (long : length zs ≡ length ys) where
-    abbrev to-fills : (Fills 𝓛 mem run).Ghost
-    to-fills = (
+    abbrev to_fills : (Fills 𝓛 mem run).Ghost
+    to_fills = (
       (
         (κ, (κ₂, tt)),
         (q, (q₂, tt)),
@@ -169,8 +169,8 @@ module _ {M : Type 1} {𝓤 : Ura M} (𝓛 : Logic 𝓤) (mem : Memory → SProp
       tt,
     )
 
-    goes-fills : ent 𝓤 (sep 𝓤 (A.lft κ q) (sep 𝓤 (A.lft κ₂ q₂) (sep 𝓤 (sem 𝓛 (Run zs)) (sem 𝓛 Src)))) ((Fills 𝓛 mem run).pre to-fills)
-    goes-fills =
+    goes_fills : ent 𝓤 (sep 𝓤 (A.lft κ q) (sep 𝓤 (A.lft κ₂ q₂) (sep 𝓤 (sem 𝓛 (Run zs)) (sem 𝓛 Src)))) ((Fills 𝓛 mem run).pre to_fills)
+    goes_fills =
         qed 𝓛 (‵ (flft κ q) ∷ ‵ (flft κ₂ q₂) ∷ (‵ (Run zs) ⊛ ‵ Src) ∷ []) ∵ move ! (2 ∷ []) $ split ! $
         -- [run; file; run's token; file's token]
         nothing ! $ owned ! usize (Is usize) (uint_Makes 𝓛 w64) r.others _ (refl, others_fits) $ fjoin ! $
@@ -197,15 +197,15 @@ module _ {M : Type 1} {𝓤 : Ura M} (𝓛 : Logic 𝓤) (mem : Memory → SProp
           assigns ! (agg ! (and_then ! (load ! (from ! (stop !)) (look ! 6 refl)) (and_then ! (load ! (from ! (fld ! refl (stop !))) (look_in ! 20 (sub ! 1 refl (whole !)))) (no_more !))))
           (from ! (stop !)) (init ! 4 refl (tt, (tt, (record { fits = room.0 }, tt)))) $
           move ! (3 ∷ []) $ use1 𝓛 (‵ Src ⊛ ‵ Src) ((shr_slice_copy 𝓛 (named 1) κ₂ u8).twice x₂ (s₂ ∷ [])) $ split ! $ move ! (4 ∷ 0 ∷ []) $ join ! $ move ! (2 ∷ 3 ∷ 0 ∷ []) $
-          use3 𝓛 (raw ((Fills 𝓛 mem run).pre (to-fills zs long))) (goes-fills zs long) $
+          use3 𝓛 (raw ((Fills 𝓛 mem run).pre (to_fills zs long))) (goes_fills zs long) $
           -- [the callee's need; file; the locals]
-          calls_at ! fm (Fills 𝓛 mem run) known-fills (to-fills zs long)
+          calls_at ! fm (Fills 𝓛 mem run) known-fills (to_fills zs long)
           (and_then ! (load ! (from ! (stop !)) (look ! 2 refl)) (and_then ! (load ! (from ! (stop !)) (look ! 16 refl)) (and_then ! (load ! (from ! (stop !)) (look ! 14 refl))
           (and_then ! (load ! (from ! (fld ! refl (stop !))) (look_in ! 12 (sub ! 1 refl (whole !))))
           (and_then ! (load ! (from ! (fld ! refl (stop !))) (look_in ! 12 (sub ! 2 refl (whole !)))) (and_then ! (load ! (from ! (fld ! refl (stop !))) (look_in ! 12 (sub ! 4 refl (whole !)))) (no_more !))))))) (λ v.
           use1 𝓛 (later (some (λ (u : Unit {0}). ((‵ (flft κ q) ⊛ ‵ (flft κ₂ q₂) ⊛ ‵ ftrue) ⊛ ‵ (Nothing.own u (v ∷ [])))
-          ⊛ raw (ensured 𝓛 sf.ended (sf.clauses 𝓛 mem run) (κ, (κ₂, tt)) (to-fills zs long).0.3 tt u)))) (id⊢ 𝓤 _) $ await ! tt $ pick ! (λ u.
-          split ! $ move ! (1 ∷ []) $ use1 𝓛 (some (λ (ls : Lasts sf.ended (κ, (κ₂, tt)) (to-fills zs long).0.3). ‵ (lasts sf.ended (κ, (κ₂, tt)) (to-fills zs long).0.3 ls)
+          ⊛ raw (ensured 𝓛 sf.ended (sf.clauses 𝓛 mem run) (κ, (κ₂, tt)) (to_fills zs long).0.3 tt u)))) (id⊢ 𝓤 _) $ await ! tt $ pick ! (λ u.
+          split ! $ move ! (1 ∷ []) $ use1 𝓛 (some (λ (ls : Lasts sf.ended (κ, (κ₂, tt)) (to_fills zs long).0.3). ‵ (lasts sf.ended (κ, (κ₂, tt)) (to_fills zs long).0.3 ls)
           ⊛ raw (fact 𝓤 (Filled zs ls.0)))) (id⊢ 𝓤 _) $ pick ! (λ ls.
           split ! $ move ! (1 ∷ []) $ heard ! (Filled zs ls.0) (λ filled. fsplit ! $ fsplit ! $ move ! (1 ∷ []) $ feq_l ! (λ l.
           -- [what says the last list; the rest of that; the tokens and the result; file; the locals]

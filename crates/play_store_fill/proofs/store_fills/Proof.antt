@@ -63,8 +63,8 @@ use Rattle.play_fast_fill_records.proofs.next_fill.Met as nf-thm
 use Rattle.base_walk_laws.proofs.Body.{tail}
 use Rattle.base_walk_laws.proofs.Types.{slice, bytes, word}
 use Rattle.play_store_fill.specs.Stored.{fills_stored}
-use Rattle.play_store_fill.proofs.Callees.{the_place, Fitting, file_at, File, Fits, to-fits, Told-fits, said_fits, asks-fits, First, to-first, Told-first, said-first, asks-first, Next, to-next, Told-next, said-next, asks-next}
-use Rattle.play_store_fill.proofs.Fills.{placed, placed_none, placed_next, pasted, pasted-long, pasted-next, stored_is, stored-long}
+use Rattle.play_store_fill.proofs.Callees.{the_place, Fitting, file_at, File, Fits, to_fits, Told-fits, said_fits, asks_fits, First, to_first, Told-first, said_first, asks_first, Next, to_next, Told-next, said_next, asks_next}
+use Rattle.play_store_fill.proofs.Fills.{placed, placed_none, placed_next, pasted, pasted_long, pasted_next, stored_is, stored_long}
 use Rattle.play_store_fill.proofs.fitting.Symbol as ft-def
 use Rattle.play_store_fill.proofs.fitting.Symbol.{name as #play-store-fill·fitting}
 use Rattle.play_store_fill.proofs.fitting.Met as ft-thm
@@ -126,7 +126,7 @@ module _ {M : Type 1} {𝓤 : Ura M} (𝓛 : Logic 𝓤) (mem : Memory → SProp
   zs = fills_stored bs ver fr md cnt ys
 
   zs_long : length zs ≡ length ys
-  zs_long = stored-long bs ver fr md cnt ys
+  zs_long = stored_long bs ver fr md cnt ys
 
   abbrev Post : Val → SProp 𝓤
   Post = (walk_of 𝓛 f.ended stayed (f.clauses 𝓛 mem run)).post (((κ, (κ₂, tt)), (q, (q₂, tt)), tt, args, vals), tt)
@@ -163,20 +163,20 @@ module _ {M : Type 1} {𝓤 : Ura M} (𝓛 : Logic 𝓤) (mem : Memory → SProp
     bytes_fit : i.turns * 12 < 2 ^ 64
     bytes_fit = omega (arith, inside, room.1)
 
-    inside-now : i.turns < length (ps i.turns)
-    inside-now = subst (λ (k : ℕ). i.turns < k) (sym (pasted-long bs ver fr md cnt ys i.turns i.within)) inside
+    inside_now : i.turns < length (ps i.turns)
+    inside_now = subst (λ (k : ℕ). i.turns < k) (sym (pasted_long bs ver fr md cnt ys i.turns i.within)) inside
 
     module _ (fit : Fitting (pl (i.turns + 1))) where
       abbrev next : Index
       next = record { turns = i.turns + 1; within = add-one-le less; fitting = fit }
 
-      abbrev record-now : WriteRecord
-      record-now = record_of (pl (i.turns + 1))
+      abbrev record_now : WriteRecord
+      record_now = record_of (pl (i.turns + 1))
 
-      record_is : Is T.the_row record-now (LL.vals T.the_type T'.the_laws record-now)
+      record_is : Is T.the_row record_now (LL.vals T.the_type T'.the_laws record_now)
       record_is =
           let fields = LL.owed F.the_type F'.the_laws (pl (i.turns + 1)) _ fit in
-          LL.owes T.the_type T'.the_laws record-now (fields.0, (fields.1.0, (fields.1.1.0, tt)))
+          LL.owes T.the_type T'.the_laws record_now (fields.0, (fields.1.0, (fields.1.1.0, tt)))
 
   module _ (𝓣 : Tables 𝓤 H) (known : Triple 𝓤 (𝓣.C #play-store-fill·fitting) (Fits 𝓛 mem run))
       (known-first : Triple 𝓤 (𝓣.C #play-fast-fill-records·fill-place) (First 𝓛 mem run)) (known_next : Triple 𝓤 (𝓣.C #play-fast-fill-records·next-fill) (Next 𝓛 mem run)) where
@@ -232,17 +232,17 @@ module _ {M : Type 1} {𝓤 : Ura M} (𝓛 : Logic 𝓤) (mem : Memory → SProp
         stores fit =
             assigns ! (agg ! (and_then ! (load ! (from ! (fld ! refl (stop !))) (look_in ! 18 (sub ! 0 refl (whole !))))
             (and_then ! (load ! (from ! (fld ! refl (stop !))) (look_in ! 18 (sub ! 1 refl (whole !)))) (and_then ! (load ! (from ! (fld ! refl (stop !))) (look_in ! 18 (sub ! 2 refl (whole !)))) (no_more !)))))
-            (from ! (stop !)) (init ! 14 refl ((LL.lawful T.the_type T'.the_laws 𝓛).typed (record-now i less fit) _ (record_is i less fit)).0) $
+            (from ! (stop !)) (init ! 14 refl ((LL.lawful T.the_type T'.the_laws 𝓛).typed (record_now i less fit) _ (record_is i less fit)).0) $
             assigns ! (bin ! (load ! (from ! (stop !)) (look ! 16 refl)) (lit ! tt) (record { fits = bytes_fit i less })) (from ! (stop !)) (init ! 8 refl (tt, record { fits = bytes_fit i less })) $
             assigns ! (bin ! (load ! (from ! (fld ! refl (stop !))) (look_in ! 32 (sub ! 0 refl (whole !)))) (load ! (from ! (stop !)) (look ! 8 refl)) tt) (from ! (stop !)) (init ! 6 refl (tt, tt)) $
             rewrite ! 6 (λ (p : ℕ). ‵ (fat full_share ty_ptr l₁₄ 0 (vptr b p))) (sym (place_is 12 o i.turns)) refl $
-            elem_out ! T.the_row (Is T.the_row) (shows 𝓛 T.the_row) (LL.vals T.the_type T'.the_laws) (LL.tells T.the_type T'.the_laws) full_share (ps i.turns) i.turns (record-now i less fit) b o (inside-now i less) (λ _.
+            elem_out ! T.the_row (Is T.the_row) (shows 𝓛 T.the_row) (LL.vals T.the_type T'.the_laws) (LL.tells T.the_type T'.the_laws) full_share (ps i.turns) i.turns (record_now i less fit) b o (inside_now i less) (λ _.
             -- [the element; what it owns; the others; ..]
             assigns ! (of_opd ! (load ! (from ! (stop !)) (look ! 16 refl))) (from ! (hop ! (look ! 8 refl) (stop !)))
-            (store_raw ! 0 refl ((LL.lawful T.the_type T'.the_laws 𝓛).typed (record-now i less fit) _ (record_is i less fit)).0) $
-            move ! (1 ∷ []) $ drop ! $ owned ! T.the_row (Is T.the_row) ((LL.makes T.the_type T'.the_plain) 𝓛) (record-now i less fit) _ (record_is i less fit) $ move ! (1 ∷ 0 ∷ []) $
-            elem_put ! T.the_row full_share (ps i.turns) i.turns (record-now i less fit) (LL.vals T.the_type T'.the_laws (record-now i less fit)) b o (inside-now i less) $
-            rewrite ! 0 (λ (l : List WriteRecord). ‵ (row T.the_row full_share l b o)) (pasted-next bs ver fr md cnt ys i.turns less) refl $
+            (store_raw ! 0 refl ((LL.lawful T.the_type T'.the_laws 𝓛).typed (record_now i less fit) _ (record_is i less fit)).0) $
+            move ! (1 ∷ []) $ drop ! $ owned ! T.the_row (Is T.the_row) ((LL.makes T.the_type T'.the_plain) 𝓛) (record_now i less fit) _ (record_is i less fit) $ move ! (1 ∷ 0 ∷ []) $
+            elem_put ! T.the_row full_share (ps i.turns) i.turns (record_now i less fit) (LL.vals T.the_type T'.the_laws (record_now i less fit)) b o (inside_now i less) $
+            rewrite ! 0 (λ (l : List WriteRecord). ‵ (row T.the_row full_share l b o)) (pasted_next bs ver fr md cnt ys i.turns less) refl $
             assigns_last ! (bin ! (load ! (from ! (stop !)) (look ! 16 refl)) (lit ! tt) (record { fits = next_fits i less })) (from ! (stop !)) (store ! 16 refl (tt, record { fits = next_fits i less })) $
             forget ! 14 refl $ forget ! 10 refl $ forget ! 8 refl $ forget ! 6 refl $
             again ! Nearer At i (next i less fit) (add-one-dec n i.turns less))
@@ -251,12 +251,12 @@ module _ {M : Type 1} {𝓤 : Ura M} (𝓛 : Logic 𝓤) (mem : Memory → SProp
         takes : Sq 𝓛 (Tested i (pl i.turns)) (runs C Λ En (tail (tail code.Mir.turn-1)) (any_q (Turned i)))
         takes =
             move ! (5 ∷ []) $ use1 𝓛 (‵ Src ⊛ ‵ Src) ((shr_slice_copy 𝓛 (named 1) κ₂ u8).twice x₂ (s₂ ∷ [])) $ split ! $ move ! (6 ∷ 0 ∷ []) $
-            use2 𝓛 (raw ((Next 𝓛 mem run).pre (to-next 𝓛 mem run κ₂ q₂ x₂ ver (pl i.turns)))) (asks-next 𝓛 mem run κ₂ q₂ x₂ ver (pl i.turns) ver-fits i.fitting) $
-            calls_at ! fm (Next 𝓛 mem run) known_next (to-next 𝓛 mem run κ₂ q₂ x₂ ver (pl i.turns))
+            use2 𝓛 (raw ((Next 𝓛 mem run).pre (to_next 𝓛 mem run κ₂ q₂ x₂ ver (pl i.turns)))) (asks_next 𝓛 mem run κ₂ q₂ x₂ ver (pl i.turns) ver-fits i.fitting) $
+            calls_at ! fm (Next 𝓛 mem run) known_next (to_next 𝓛 mem run κ₂ q₂ x₂ ver (pl i.turns))
             (and_then ! (load ! (from ! (stop !)) (look ! 30 refl)) (and_then ! (load ! (from ! (stop !)) (look ! 28 refl)) (and_then ! (load ! (from ! (stop !)) (look ! 18 refl)) (no_more !)))) (λ v.
             use1 𝓛 (later (some (λ (r : FillPlace). ((‵ (flft κ₂ q₂) ⊛ ‵ ftrue) ⊛ ‵ ((F.the_row).own_val r (v ∷ [])))
             ⊛ raw (Told-next 𝓛 mem run κ₂ q₂ x₂ ver (pl i.turns) r)))) (id⊢ 𝓤 _) $ await ! tt $ pick ! (λ r.
-            split ! $ move ! (1 ∷ []) $ use1 𝓛 (raw (fact 𝓤 (r ≡ next_fill bs ver (pl i.turns)))) (said-next 𝓛 mem run κ₂ q₂ x₂ ver (pl i.turns) r) $
+            split ! $ move ! (1 ∷ []) $ use1 𝓛 (raw (fact 𝓤 (r ≡ next_fill bs ver (pl i.turns)))) (said_next 𝓛 mem run κ₂ q₂ x₂ ver (pl i.turns) r) $
             heard ! (r ≡ next_fill bs ver (pl i.turns)) (λ e. split ! $ move ! (1 ∷ []) $
             peeks ! F.the_row (Is F.the_row) (shows 𝓛 F.the_row) r (v ∷ []) (λ is. drop ! $
             land ! (from ! (stop !)) (store ! 18 refl ((LL.lawful F.the_type F'.the_laws 𝓛).typed r _ is).0) $
@@ -313,16 +313,16 @@ module _ {M : Type 1} {𝓤 : Ura M} (𝓛 : Logic 𝓤) (mem : Memory → SProp
       body : Sq 𝓛 Entered (runs C Λ En code.Mir.t-1 (at_ret En Post))
       body =
           assigns ! (of_opd ! (load ! (from ! (fld ! refl (stop !))) (look_in ! 30 (sub ! 1 refl (whole !))))) (from ! (stop !)) (init ! 10 refl (tt, record { fits = room.0 })) $
-          use0 𝓛 (raw ((Fits 𝓛 mem run).pre (to-fits 𝓛 mem run (length ys) cnt))) (asks-fits 𝓛 mem run (length ys) cnt room.0 cnt-fits) $
-          calls_at ! fm (Fits 𝓛 mem run) known (to-fits 𝓛 mem run (length ys) cnt) (and_then ! (load ! (from ! (stop !)) (look ! 11 refl)) (and_then ! (load ! (from ! (stop !)) (look ! 21 refl)) (no_more !))) (λ v.
+          use0 𝓛 (raw ((Fits 𝓛 mem run).pre (to_fits 𝓛 mem run (length ys) cnt))) (asks_fits 𝓛 mem run (length ys) cnt room.0 cnt-fits) $
+          calls_at ! fm (Fits 𝓛 mem run) known (to_fits 𝓛 mem run (length ys) cnt) (and_then ! (load ! (from ! (stop !)) (look ! 11 refl)) (and_then ! (load ! (from ! (stop !)) (look ! 21 refl)) (no_more !))) (λ v.
           use1 𝓛 (later (some (λ (r : ℕ). (‵ ftrue ⊛ ‵ (usize.own_val r (v ∷ []))) ⊛ raw (Told-fits 𝓛 mem run (length ys) cnt r)))) (id⊢ 𝓤 _) $ await ! tt $ pick ! (λ r.
           split ! $ move ! (1 ∷ []) $ use1 𝓛 (raw (fact 𝓤 (r ≡ n))) (said_fits 𝓛 mem run (length ys) cnt r) $ heard ! (r ≡ n) (λ e. split ! $ drop ! $
           peeks ! usize (Is usize) (shows 𝓛 usize) r (v ∷ []) (λ is. drop ! $
           land ! (from ! (stop !)) (init ! 18 refl ((uint_Lawful 𝓛 w64).typed r _ is).0) $ rewrite ! 18 (λ (z : Val). ‵ (fat full_share word l₇ 0 z)) (ap only is.0 ∙ ap (λ (c : ℕ). vint w64 c) e) refl $
-          use0 𝓛 (raw ((First 𝓛 mem run).pre (to-first 𝓛 mem run fr md))) (asks-first 𝓛 mem run fr md fr-fits md-fits) $
-          calls_at ! fm (First 𝓛 mem run) known-first (to-first 𝓛 mem run fr md) (and_then ! (load ! (from ! (stop !)) (look ! 25 refl)) (and_then ! (load ! (from ! (stop !)) (look ! 23 refl)) (no_more !))) (λ w.
+          use0 𝓛 (raw ((First 𝓛 mem run).pre (to_first 𝓛 mem run fr md))) (asks_first 𝓛 mem run fr md fr-fits md-fits) $
+          calls_at ! fm (First 𝓛 mem run) known-first (to_first 𝓛 mem run fr md) (and_then ! (load ! (from ! (stop !)) (look ! 25 refl)) (and_then ! (load ! (from ! (stop !)) (look ! 23 refl)) (no_more !))) (λ w.
           use1 𝓛 (later (some (λ (p : FillPlace). (‵ ftrue ⊛ ‵ ((F.the_row).own_val p (w ∷ []))) ⊛ raw (Told-first 𝓛 mem run fr md p)))) (id⊢ 𝓤 _) $ await ! tt $ pick ! (λ p.
-          split ! $ move ! (1 ∷ []) $ use1 𝓛 (raw (fact 𝓤 (p ≡ fill_place fr md))) (said-first 𝓛 mem run fr md p) $ heard ! (p ≡ fill_place fr md) (λ e₂. split ! $ drop ! $
+          split ! $ move ! (1 ∷ []) $ use1 𝓛 (raw (fact 𝓤 (p ≡ fill_place fr md))) (said_first 𝓛 mem run fr md p) $ heard ! (p ≡ fill_place fr md) (λ e₂. split ! $ drop ! $
           peeks ! F.the_row (Is F.the_row) (shows 𝓛 F.the_row) p (w ∷ []) (λ is₂. drop ! $
           land ! (from ! (stop !)) (init ! 16 refl ((LL.lawful F.the_type F'.the_laws 𝓛).typed p _ is₂).0) $
           rewrite ! 16 (λ (z : Val). ‵ (fat full_share F'.mir l₈ 0 z)) (ap only (LL.tells F.the_type F'.the_laws p _ is₂) ∙ ap the_place (e₂ ∙ placed_none bs ver fr md)) refl $

@@ -173,8 +173,8 @@ module _ {M : Type 1} {𝓤 : Ura M} (𝓛 : Logic 𝓤) (mem : Memory → SProp
     inside : i.0 < length ys
     inside = omega (arith, less, (storable_fits (length ys) (length bs) ver fr cnt).0)
 
-    i-fits : i.0 < 2 ^ 64
-    i-fits = omega (arith, inside, room.0)
+    i_fits : i.0 < 2 ^ 64
+    i_fits = omega (arith, inside, room.0)
 
     next_fits : i.0 + 1 < 2 ^ 64
     next_fits = omega (arith, inside, room.0)
@@ -182,16 +182,16 @@ module _ {M : Type 1} {𝓤 : Ura M} (𝓛 : Logic 𝓤) (mem : Memory → SProp
     bytes_fit : i.0 * 12 < 2 ^ 64
     bytes_fit = omega (arith, inside, room.1)
 
-    inside-now : i.0 < length (ps i.0)
-    inside-now = subst (λ (k : ℕ). i.0 < k) (sym (pasted_long bs ver fr cnt ys i.0 i.1)) inside
+    inside_now : i.0 < length (ps i.0)
+    inside_now = subst (λ (k : ℕ). i.0 < k) (sym (pasted_long bs ver fr cnt ys i.0 i.1)) inside
 
     abbrev next : Upto
     next = (i.0 + 1, add-one-le less)
 
     -- its 16 bytes are in the file
-    asks-nth : ent 𝓤 (sep 𝓤 (A.lft κ₂ q₂) (sem 𝓛 Src)) ((Nth 𝓛 mem run).pre (to_nth i))
-    asks-nth =
-        qed 𝓛 (‵ (flft κ₂ q₂) ∷ ‵ Src ∷ []) ∵ nothing ! $ owned ! usize (Is usize) (uint_Makes 𝓛 w64) i.0 _ (refl, i-fits) $ fjoin ! $
+    asks_nth : ent 𝓤 (sep 𝓤 (A.lft κ₂ q₂) (sem 𝓛 Src)) ((Nth 𝓛 mem run).pre (to_nth i))
+    asks_nth =
+        qed 𝓛 (‵ (flft κ₂ q₂) ∷ ‵ Src ∷ []) ∵ nothing ! $ owned ! usize (Is usize) (uint_Makes 𝓛 w64) i.0 _ (refl, i_fits) $ fjoin ! $
         owned ! usize (Is usize) (uint_Makes 𝓛 w64) fr _ (refl, fr-fits) $ fjoin ! $ owned ! u8 (Is u8) (uint_Makes 𝓛 w8) ver _ (refl, ver-fits) $ fjoin ! $
         move ! (2 ∷ 0 ∷ []) $ fjoin ! $ nothing ! $ move ! (2 ∷ 0 ∷ []) $ join ! $
         use0 𝓛 (raw (fact 𝓤 (fr + i.0 * plain_size ver + 16 ≤ length bs))) (fact_i 𝓤 (fr + i.0 * plain_size ver + 16 ≤ length bs) (emp 𝓤) ((storable_fits (length ys) (length bs) ver fr cnt).1 i.0 less)) $
@@ -261,11 +261,11 @@ module _ {M : Type 1} {𝓤 : Ura M} (𝓛 : Logic 𝓤) (mem : Memory → SProp
             assigns ! (bin ! (load ! (from ! (stop !)) (look ! 18 refl)) (lit ! tt) (record { fits = bytes_fit i less })) (from ! (stop !)) (init ! 8 refl (tt, record { fits = bytes_fit i less })) $
             assigns ! (bin ! (load ! (from ! (fld ! refl (stop !))) (look_in ! 30 (sub ! 0 refl (whole !)))) (load ! (from ! (stop !)) (look ! 8 refl)) tt) (from ! (stop !)) (init ! 6 refl (tt, tt)) $
             rewrite ! 6 (λ (p : ℕ). ‵ (fat full_share ty_ptr l₁₃ 0 (vptr b p))) (sym (place_is 12 o i.0)) refl $
-            elem_out ! T.the_row (Is T.the_row) (shows 𝓛 T.the_row) (LL.vals T.the_type T'.the_laws) (LL.tells T.the_type T'.the_laws) full_share (ps i.0) i.0 r b o (inside-now i less) (λ _.
+            elem_out ! T.the_row (Is T.the_row) (shows 𝓛 T.the_row) (LL.vals T.the_type T'.the_laws) (LL.tells T.the_type T'.the_laws) full_share (ps i.0) i.0 r b o (inside_now i less) (λ _.
             -- [the element; what it owns; the others; ..]
             assigns ! (of_opd ! (load ! (from ! (stop !)) (look ! 18 refl))) (from ! (hop ! (look ! 8 refl) (stop !))) (store_raw ! 0 refl ((LL.lawful T.the_type T'.the_laws 𝓛).typed r _ is).0) $
             move ! (1 ∷ []) $ drop ! $ owned ! T.the_row (Is T.the_row) ((LL.makes T.the_type T'.the_plain) 𝓛) r _ is $ move ! (1 ∷ 0 ∷ []) $
-            elem_put ! T.the_row full_share (ps i.0) i.0 r (LL.vals T.the_type T'.the_laws r) b o (inside-now i less) $
+            elem_put ! T.the_row full_share (ps i.0) i.0 r (LL.vals T.the_type T'.the_laws r) b o (inside_now i less) $
             rewrite ! 0 (λ (l : List WriteRecord). ‵ (row T.the_row full_share l b o)) (ap (set (ps i.0) i.0) e ∙ pasted_next bs ver fr cnt ys i.0 less) refl $
             assigns_last ! (bin ! (load ! (from ! (stop !)) (look ! 18 refl)) (lit ! tt) (record { fits = next_fits i less })) (from ! (stop !)) (store ! 18 refl (tt, record { fits = next_fits i less })) $
             forget ! 16 refl $ forget ! 10 refl $ forget ! 8 refl $ forget ! 6 refl $
@@ -275,7 +275,7 @@ module _ {M : Type 1} {𝓤 : Ura M} (𝓛 : Logic 𝓤) (mem : Memory → SProp
         takes : Sq 𝓛 (Tested i) (runs C Λ En (tail (tail code.Mir.turn-1)) (any_q (Turned i)))
         takes =
             move ! (5 ∷ []) $ use1 𝓛 (‵ Src ⊛ ‵ Src) ((shr_slice_copy 𝓛 (named 1) κ₂ u8).twice x₂ (s₂ ∷ [])) $ split ! $ move ! (6 ∷ 0 ∷ []) $
-            use2 𝓛 (raw ((Nth 𝓛 mem run).pre (to_nth i))) (asks-nth i less) $
+            use2 𝓛 (raw ((Nth 𝓛 mem run).pre (to_nth i))) (asks_nth i less) $
             calls_at ! fm (Nth 𝓛 mem run) known-nth (to_nth i)
             (and_then ! (load ! (from ! (stop !)) (look ! 28 refl))
             (and_then ! (load ! (from ! (stop !)) (look ! 26 refl)) (and_then ! (load ! (from ! (stop !)) (look ! 24 refl)) (and_then ! (load ! (from ! (stop !)) (look ! 18 refl)) (no_more !))))) (λ v.

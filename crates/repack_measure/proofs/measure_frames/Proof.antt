@@ -10,7 +10,7 @@ use Rattle.repack_wave_table.specs.Table.{waves_in, Table}
 use Rattle.base_master.specs.Result.{all_waves, frame_bytes}
 use Rattle.base_master.proofs.Master.{frames_rise, frame_within}
 use Rattle.base_master.specs.Uses.{all_uses}
-use Rattle.base_master.proofs.Result.{all_none, frames-none}
+use Rattle.base_master.proofs.Result.{all_none, frames_none}
 use Rattle.base_master.proofs.Uses.{all_uses_none}
 use Rattle.repack_measure.specs.Measured.{notes, notes_over, Noted}
 use Rattle.repack_measure.proofs.Noted.{onward, notes_onward}
@@ -117,7 +117,7 @@ returns c =
       record {
         noting = l.invariant.6;
         waves_are = l.invariant.2 ∙ rw (none, all_none);
-        size_is = l.invariant.3 ∙ rw (none, frames-none) (omega arith);
+        size_is = l.invariant.3 ∙ rw (none, frames_none) (omega arith);
         small = omega (arith, frames_rise file l.left l.at);
         uses_are = l.invariant.7 ∙ rw (none, all_uses_none, append-nil);
         few = l.invariant.1.few;

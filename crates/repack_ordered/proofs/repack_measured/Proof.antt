@@ -5,7 +5,7 @@ use lib.ListN.{replicate}
 use Rattle.repack_wave_table.proofs.Table.{no_waves}
 use Rattle.repack_measure.proofs.Noted.{none_noted}
 use Rattle.repack_ordered.proofs.Answers.{refuses, writes, here, known_of, long_result, short_room, the_result}
-use Rattle.repack_layout.proofs.Made.{pcm_few, total-is}
+use Rattle.repack_layout.proofs.Made.{pcm_few, total_is}
 use Rattle.repack_ordered.proofs.repack_measured.Statement.{statement}
 use Rattle.repack_ordered.proofs.repack_measured.Tie as tie
 
@@ -29,7 +29,7 @@ lay_out_requires c κs =
 returns : tie.Need-returns
 returns c =
     let s = c.before.before.before.before.before.before.before.before.before.before.before.before.before.before in
-    let total = total-is (known_of s.requires c.before.before.before.before.measure-frames.ensures.0) c.before.before.before.lay-out.ensures in
+    let total = total_is (known_of s.requires c.before.before.before.before.measure-frames.ensures.0) c.before.before.before.lay-out.ensures in
     refuses s.args.file.now s.args.buffer.now 23 0 c.refused.result (long_result s.requires _ (omega (arith, total, c.before.if1.true))) c.refused.ensures
 
 returns_2 : tie.Need-returns-2
@@ -38,7 +38,7 @@ returns_2 c =
     let u = t.before in
     let v = u.before.before.before.before.before.before.before.before.before.before in
     let s = v in
-    let total = total-is (known_of s.requires u.measure-frames.ensures.0) t.lay-out.ensures in
+    let total = total_is (known_of s.requires u.measure-frames.ensures.0) t.lay-out.ensures in
     refuses s.args.file.now s.args.buffer.now 24 0 c.refused2.result (short_room s.requires _ (omega (arith, total, c.before.before.before.if1.false)) (omega (arith, total, c.before.if2.true))) c.refused2.ensures
 
 write_master_requires : tie.Need-write-master-requires
@@ -58,7 +58,7 @@ returns_3 c =
     let x = v.before in
     let y = x.before.before.before.before.before.before.before.before.before.before in
     let s = y in
-    let total = total-is (known_of s.requires x.measure-frames.ensures.0) v.lay-out.ensures in
+    let total = total_is (known_of s.requires x.measure-frames.ensures.0) v.lay-out.ensures in
     writes s.args.file.now s.args.buffer.now _ _ _ (the_result s.requires _ (omega (arith, total, u.if1.false)) (omega (arith, total, t.if2.false))) total t.if2.false c.before.before.write-master.ensures
 
 pub repack_measured_spec : {M : Type 1} → statement M

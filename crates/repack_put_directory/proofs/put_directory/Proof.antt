@@ -11,38 +11,35 @@ use Rattle.repack_put_directory.proofs.Directory.{directory_plain, directory_pcm
 use Rattle.repack_put_directory.proofs.put_directory.Statement.{statement}
 use Rattle.repack_put_directory.proofs.put_directory.Tie as tie
 
-put_wave_entries_requires : tie.Need-put-wave-entries-requires
+put_wave_entries_requires : tie.Need-put_wave_entries-requires
 put_wave_entries_requires c κs =
-    let a = c.before.before.before.args in
-    let size = directory_none a.pcm a.waves a.start c.before.if1.true in
+    let a = c.args in
+    let size = directory_none a.pcm a.waves a.start c.if-pcm-eq0.true in
     (omega arith, omega arith, omega arith)
 
-returns : tie.Need-returns
+returns : tie.Need-returns-then-pcm-eq0
 returns c =
-    let a = c.before.before.before.before.before.before.args in
-    rw (directory_plain a.pcm a.waves a.start c.before.before.before.before.if1.true) c.before.before.put-wave-entries.ensures
+    let a = c.args in
+    rw (directory_plain a.pcm a.waves a.start c.if-pcm-eq0.true) c.put_wave_entries.ensures
 
-put_entry_requires : tie.Need-put-entry-requires
+put_entry_requires : tie.Need-put_entry-requires
 put_entry_requires c κs =
-    let a = c.before.before.before.args in
-    omega (arith, directory_some a.pcm a.waves a.start c.before.if1.false)
+    let a = c.args in
+    omega (arith, directory_some a.pcm a.waves a.start c.if-pcm-eq0.false)
 
-put_wave_entries_requires_2 : tie.Need-put-wave-entries-requires-2
+put_wave_entries_requires_2 : tie.Need-put_wave_entries-requires-2
 put_wave_entries_requires_2 c κs =
-    let a = c.before.before.before.before.before.before.before.args in
-    let whole = directory_some a.pcm a.waves a.start c.before.before.before.before.before.if1.false in
+    let a = c.args in
+    let whole = directory_some a.pcm a.waves a.start c.if-pcm-eq0.false in
     (omega arith, omega arith, omega arith)
 
-returns_2 : tie.Need-returns-2
+returns_2 : tie.Need-returns
 returns_2 c =
-    let t = c.before.before.before.before.before.before in
-    let u = t.before.before in
-    let s = u.before.before in
-    let a = s.args in
-    let whole = directory_some a.pcm a.waves a.start u.if1.false in
-    let is = directory_pcm a.pcm a.waves a.start u.if1.false in
-    rw (c.before.before.put-wave-entries2.ensures, t.put-entry.ensures, is)
-    (sym (put_next (entry_bytes 0 2 a.pcm a.start) (wave_entries 1 (a.start + a.pcm) a.waves) 40 16 a.buffer.now (entry_size_lem 0 2 a.pcm a.start) (rw is at s.requires.0)))
+    let a = c.args in
+    let whole = directory_some a.pcm a.waves a.start c.if-pcm-eq0.false in
+    let is = directory_pcm a.pcm a.waves a.start c.if-pcm-eq0.false in
+    rw (c.put_wave_entries-2.ensures, c.put_entry.ensures, is)
+    (sym (put_next (entry_bytes 0 2 a.pcm a.start) (wave_entries 1 (a.start + a.pcm) a.waves) 40 16 a.buffer.now (entry_size_lem 0 2 a.pcm a.start) (rw is at c.requires.0)))
 
 pub put_directory_spec : {M : Type 1} → statement M
 put_directory_spec =

@@ -7,7 +7,7 @@ use Rattle.repack_put_items.proofs.put_record.Tie as tie
 
 returns : tie.Need-returns
 returns c =
-    let a = c.before.before.before.before.before.before.before.args in
+    let a = c.args in
     cc (item_two (record_of a.file.now a.from))
 
 pub put_record_spec : {M : Type 1} → statement M

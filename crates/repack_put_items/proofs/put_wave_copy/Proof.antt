@@ -9,7 +9,7 @@ use Rattle.repack_put_items.proofs.put_wave_copy.Tie as tie
 
 returns : tie.Need-returns
 returns c =
-    let a = c.before.before.before.before.before.before.before.args in
+    let a = c.args in
     cc (item_two (Copy (byte a.file.now a.from) (be 3 a.file.now (a.from + 1)) a.pool 0 256))
 
 pub put_wave_copy_spec : {M : Type 1} → statement M

@@ -11,9 +11,9 @@ use Rattle.repack_put_items.proofs.record_at.Tie as tie
 
 returns : tie.Need-returns
 returns c =
-    let a = c.before.before.before.args in
+    let a = c.args in
     let size : a.from + 5 - a.from ≡ 5 = omega arith in
-    let is : c.decode-record.result ≡ decoded_record (part a.file.now a.from 5) = rw size at c.decode-record.ensures in
+    let is : c.decode_record.result ≡ decoded_record (part a.file.now a.from 5) = rw size at c.decode_record.ensures in
     rw is (numbers_at_lem a.file.now a.from)
 
 pub record_at_spec : {M : Type 1} → statement M

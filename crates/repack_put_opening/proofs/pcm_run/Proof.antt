@@ -11,38 +11,33 @@ use Rattle.base_master.proofs.Result.{pcm_none, pcm_more, pcm_wrong, pcm_other}
 use Rattle.repack_put_opening.proofs.pcm_run.Statement.{statement}
 use Rattle.repack_put_opening.proofs.pcm_run.Tie as tie
 
-abbrev invariant_loop : tie.invariant-loop
+abbrev invariant_loop : tie.invariant-loop-left
 invariant_loop file count at₀ left₀ pcm₀ at left pcm = (at + left * 5 ≤ length file) × (pcm + left ≤ count) × (pcm_from 0 (records_at file count 20) ≡ pcm_from pcm (records_at file left at))
 
-abbrev decreases_loop : tie.decreases-loop
+abbrev decreases_loop : tie.decreases-loop-left
 decreases_loop file count at₀ left₀ pcm₀ at left pcm = left
 
-returns : tie.Need-returns invariant_loop decreases_loop
+returns : tie.Need-returns-then-record-pcm invariant_loop decreases_loop
 returns c =
-    let one = c.before.before in
-    let r = one.before.before in
-    let p = r.before.before in
-    let a = p.before.before.args in
-    let l = p.loop in
-    let is = r.record-at.ensures in
+    let a = c.args in
+    let l = c.loop-left in
+    let is = c.record_at-record.ensures in
     sym (l.invariant.2
-    ∙ pcm_wrong a.file.now l.pcm l.left l.at r.before.loop-test.true (sym is.0 ∙ one.if1.true) (λ e. c.if2.true (is.1 ∙ e)))
+    ∙ pcm_wrong a.file.now l.pcm l.left l.at c.loop-left-test.true (sym is.0 ∙ c.if-record-eq2.true) (λ e. c.if-record-pcm.true (is.1 ∙ e)))
 
-loop_again : tie.Need-loop-preserved invariant_loop decreases_loop
+loop_again : tie.Need-loop-left-preserved invariant_loop decreases_loop
 loop_again c =
-    let r = c.before.before in
-    let t = r.before in
-    let l = t.before.loop in
-    let file = t.before.before.before.args.file.now in
-    let is = r.record-at.ensures in
+    let l = c.loop-left in
+    let file = c.args.file.now in
+    let is = c.record_at-record.ensures in
     let rest = records_at file (l.left - 1) (l.at + 5) in
     ⊎_elim
-    (λ w. (omega arith, omega (arith, w.3), l.invariant.2 ∙ pcm_more file l.pcm l.left l.at t.loop-test.true (sym is.0 ∙ w.0.taken) (sym is.1 ∙ w.2.left) ∙ ap (λ (n : ℕ). pcm_from n rest) (sym w.3)))
-    (λ w. (omega arith, omega (arith, w.1), l.invariant.2 ∙ pcm_other file l.pcm l.left l.at t.loop-test.true (λ e. w.0.left (is.0 ∙ e)) ∙ ap (λ (n : ℕ). pcm_from n rest) (sym w.1)))
-    c.if1.branch
+    (λ w. (omega arith, omega (arith, w.3), l.invariant.2 ∙ pcm_more file l.pcm l.left l.at c.loop-left-test.true (sym is.0 ∙ w.0.taken) (sym is.1 ∙ w.2.left) ∙ ap (λ (n : ℕ). pcm_from n rest) (sym w.3)))
+    (λ w. (omega arith, omega (arith, w.1), l.invariant.2 ∙ pcm_other file l.pcm l.left l.at c.loop-left-test.true (λ e. w.0.left (is.0 ∙ e)) ∙ ap (λ (n : ℕ). pcm_from n rest) (sym w.1)))
+    c.if-record-eq2.branch
 
 pub pcm_run_spec : {M : Type 1} → statement M
 pcm_run_spec =
     tie.close
     (tie.spec invariant_loop decreases_loop (λ c. (omega arith, omega arith, refl)) (search rules) (search rules) returns (search rules) (search rules) (search rules)
-    (search rules) loop_again (λ c. let none : c.before.loop.left ≡ 0 = omega arith in rw (c.before.loop.invariant.2, none, pcm_none)))
+    (search rules) loop_again (λ c. let none : c.loop-left.left ≡ 0 = omega arith in rw (c.loop-left.invariant.2, none, pcm_none)))

@@ -16,11 +16,11 @@ use Rattle.bytes_put_fields.proofs.Writing.{Writing, starts, wrote, told, ends}
 use Rattle.repack_put_opening.proofs.put_cores.Statement.{statement}
 use Rattle.repack_put_opening.proofs.put_cores.Tie as tie
 
-abbrev invariant_loop : tie.invariant-loop
+abbrev invariant_loop : tie.invariant-loop-left
 invariant_loop file count buffer₀ at write from₀ left₀ place₀ buffer from left place =
     (from + left * 5 ≤ length file) × Writing (core_bytes file count 20) at buffer₀ (core_bytes file left from) place buffer
 
-abbrev decreases_loop : tie.decreases-loop
+abbrev decreases_loop : tie.decreases-loop-left
 decreases_loop file count buffer₀ at write from₀ left₀ place₀ buffer from left place = left
 
 -- a WRITE and what is behind it
@@ -30,33 +30,29 @@ size file left from more core =
     ∙ length-append (item_bytes 2 (record_of file from)) (core_bytes file (left - 1) (from + 5))
     ∙ rw write_size
 
-loop_holds : tie.Need-loop-init invariant_loop decreases_loop
+loop_holds : tie.Need-loop-left-init invariant_loop decreases_loop
 loop_holds c =
-    let a = c.before.before.before.args in
-    (c.before.before.before.requires.0, starts (core_bytes a.file.now a.count 20) a.at a.buffer.now c.before.before.before.requires.1)
+    let a = c.args in
+    (c.requires.0, starts (core_bytes a.file.now a.count 20) a.at a.buffer.now c.requires.1)
 
-put_record_requires : tie.Need-put-record-requires invariant_loop decreases_loop
+put_record_requires : tie.Need-put_record-requires invariant_loop decreases_loop
 put_record_requires c κs =
-    let p = c.before.before.before.before in
-    let l = p.loop in
-    let next = size p.before.before.before.before.args.file.now l.left l.from c.before.before.before.loop-test.true c.before.if1.true in
+    let l = c.loop-left in
+    let next = size c.args.file.now l.left l.from c.loop-left-test.true c.if-target-ne2.true in
     (omega arith, omega (arith, next, l.invariant.1.fits))
 
-add_place : tie.Need-overflow-add-place invariant_loop decreases_loop
+add_place : tie.Need-overflow_add-place invariant_loop decreases_loop
 add_place c =
-    let t = c.before.before.before.before in
-    let p = t.before.before.before in
-    let l = p.loop in
-    let next = size p.before.before.before.before.args.file.now l.left l.from t.before.before.loop-test.true t.if1.true in
-    omega (arith, next, l.invariant.1.fits, p.before.operation-size.ensures.0)
+    let l = c.loop-left in
+    let next = size c.args.file.now l.left l.from c.loop-left-test.true c.if-target-ne2.true in
+    omega (arith, next, l.invariant.1.fits, c.operation_size-write.ensures.0)
 
-loop_again : tie.Need-loop-preserved invariant_loop decreases_loop
+loop_again : tie.Need-loop-left-preserved invariant_loop decreases_loop
 loop_again c =
-    let p = c.before.before.before in
-    let l = p.loop in
-    let file = p.before.before.before.before.args.file.now in
-    let write = p.before.operation-size in
-    let more = c.before.before.loop-test.true in
+    let l = c.loop-left in
+    let file = c.args.file.now in
+    let write = c.operation_size-write in
+    let more = c.loop-left-test.true in
     let rest = core_bytes file (l.left - 1) (l.from + 5) in (
       omega arith,
       ⊎_elim
@@ -64,14 +60,14 @@ loop_again c =
           let is = core_item file l.left l.from more w.0.taken in
           wrote l.invariant.1 (item_bytes 2 (record_of file l.from)) rest write.result is (write_size _ _ _ ∙ sym write.ensures.0) w.6 (w.5 ∙ w.2.ensures))
           (λ w. told l.invariant.1 rest (core_skip file l.left l.from more w.0.left) w.2 w.1)
-          c.if1.branch,
+          c.if-target-ne2.branch,
     )
 
 returns : tie.Need-returns invariant_loop decreases_loop
 returns c =
-    let l = c.before.loop in
+    let l = c.loop-left in
     let none : l.left ≡ 0 = omega arith in
-    ends l.invariant.1 (rw none (opening_none c.before.before.before.before.before.args.file.now l.from).1)
+    ends l.invariant.1 (rw none (opening_none c.args.file.now l.from).1)
 
 pub put_cores_spec : {M : Type 1} → statement M
 put_cores_spec =

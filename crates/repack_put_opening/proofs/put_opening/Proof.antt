@@ -18,43 +18,35 @@ size file count pcm =
     ∙ length-append (fill_part pcm) (core_bytes file count 20 ++ copy_part pcm)
     ∙ ap (λ (n : ℕ). length (fill_part pcm) + n) (length-append (core_bytes file count 20) (copy_part pcm))
 
-add_cores : tie.Need-overflow-add-cores
+add_cores : tie.Need-overflow_add-cores
 add_cores c =
-    let a = c.before.before.before.args in
-    omega (arith, c.before.before.before.requires.1, size a.file.now a.count a.pcm, c.fill-size.ensures.0)
+    let a = c.args in
+    omega (arith, c.requires.1, size a.file.now a.count a.pcm, c.fill_size.ensures.0)
 
-put_pcm_fill_requires : tie.Need-put-pcm-fill-requires
+put_pcm_fill_requires : tie.Need-put_pcm_fill-requires
 put_pcm_fill_requires c κs =
-    let a = c.before.before.before.before.args in
-    omega (arith, c.before.before.before.before.requires.1, size a.file.now a.count a.pcm)
+    let a = c.args in
+    omega (arith, c.requires.1, size a.file.now a.count a.pcm)
 
-put_cores_requires : tie.Need-put-cores-requires
+put_cores_requires : tie.Need-put_cores-copy-requires
 put_cores_requires c κs =
-    let t = c.before.before.before.before.before in
-    let s = t.before.before.before in
-    let a = s.args in
-    (s.requires.0, omega (arith, s.requires.1, size a.file.now a.count a.pcm, t.fill-size.ensures.0))
+    let a = c.args in
+    (c.requires.0, omega (arith, c.requires.1, size a.file.now a.count a.pcm, c.fill_size.ensures.0))
 
-put_pcm_copy_requires : tie.Need-put-pcm-copy-requires
+put_pcm_copy_requires : tie.Need-put_pcm_copy-requires
 put_pcm_copy_requires c κs =
-    let t = c.before.before.before.before.before.before.before.before.before in
-    let s = t.before.before.before in
-    let a = s.args in
-    (omega (arith, s.requires.1, size a.file.now a.count a.pcm, t.fill-size.ensures.0, c.before.before.before.put-cores.ensures.1), s.requires.2)
+    let a = c.args in
+    (omega (arith, c.requires.1, size a.file.now a.count a.pcm, c.fill_size.ensures.0, c.put_cores-copy.ensures.1), c.requires.2)
 
 returns : tie.Need-returns
 returns c =
-    let t = c.before.before.before.before.before.before in
-    let u = t.before.before.before.before in
-    let v = u.before.before in
-    let s = v.before.before.before in
-    let a = s.args in
+    let a = c.args in
     let cores = core_bytes a.file.now a.count 20 in
     let copy = copy_part a.pcm in
-    let w = starts (opening_part a.file.now a.count a.pcm) a.at a.buffer.now s.requires.1 in
-    let w' = wrote w (fill_part a.pcm) (cores ++ copy) (length (fill_part a.pcm)) (opening_is a.file.now a.count a.pcm) refl (ap (λ (n : ℕ). a.at + n) v.fill-size.ensures.0) u.put-pcm-fill.ensures in
-    let w'' = wrote w' cores copy (length cores) refl refl t.put-cores.ensures.1 t.put-cores.ensures.0 in
-    let done = wrote w'' copy [] (length copy) (sym (append-nil copy)) refl refl c.before.before.put-pcm-copy.ensures in
+    let w = starts (opening_part a.file.now a.count a.pcm) a.at a.buffer.now c.requires.1 in
+    let w' = wrote w (fill_part a.pcm) (cores ++ copy) (length (fill_part a.pcm)) (opening_is a.file.now a.count a.pcm) refl (ap (λ (n : ℕ). a.at + n) c.fill_size.ensures.0) c.put_pcm_fill.ensures in
+    let w'' = wrote w' cores copy (length cores) refl refl c.put_cores-copy.ensures.1 c.put_cores-copy.ensures.0 in
+    let done = wrote w'' copy [] (length copy) (sym (append-nil copy)) refl refl c.put_pcm_copy.ensures in
     (ends done refl).0
 
 pub put_opening_spec : {M : Type 1} → statement M

@@ -9,20 +9,20 @@ use Rattle.repack_put_opening.proofs.Opening.{no_copy, some_copy, copy_long}
 use Rattle.repack_put_opening.proofs.put_pcm_copy.Statement.{statement}
 use Rattle.repack_put_opening.proofs.put_pcm_copy.Tie as tie
 
-returns : tie.Need-returns
+returns : tie.Need-returns-then-pcm-eq0
 returns c =
-    let a = c.before.before.args in
-    rw (no_copy a.pcm c.if1.true) (sym (put_none a.at a.buffer.now (omega arith)))
+    let a = c.args in
+    rw (no_copy a.pcm c.if-pcm-eq0.true) (sym (put_none a.at a.buffer.now (omega arith)))
 
-put_copy_requires : tie.Need-put-copy-requires
+put_copy_requires : tie.Need-put_copy-requires
 put_copy_requires c κs =
-    let a = c.before.before.before.args in
-    (omega arith, omega arith, omega (arith, copy_long a.pcm c.before.if1.false))
+    let a = c.args in
+    (omega arith, omega arith, omega (arith, copy_long a.pcm c.if-pcm-eq0.false))
 
-returns_2 : tie.Need-returns-2
+returns_2 : tie.Need-returns
 returns_2 c =
-    let a = c.before.before.before.before.before.before.args in
-    rw (some_copy a.pcm c.before.before.before.before.if1.false, item_two (Copy 2 0 0 0 a.pcm)) c.before.before.put_copy.ensures
+    let a = c.args in
+    rw (some_copy a.pcm c.if-pcm-eq0.false, item_two (Copy 2 0 0 0 a.pcm)) c.put_copy.ensures
 
 pub put_pcm_copy_spec : {M : Type 1} → statement M
 put_pcm_copy_spec = tie.close (tie.spec returns (search rules) put_copy_requires (search rules) returns_2)

@@ -10,27 +10,26 @@ use Rattle.repack_put_opening.proofs.Opening.{no_fill, full_fill, some_fill, fil
 use Rattle.repack_put_opening.proofs.put_pcm_fill.Statement.{statement}
 use Rattle.repack_put_opening.proofs.put_pcm_fill.Tie as tie
 
-returns : tie.Need-returns
+returns : tie.Need-returns-then-pcm-eq0
 returns c =
-    let a = c.before.before.args in
-    rw (no_fill a.pcm c.if1.true) (sym (put_none a.at a.buffer.now (omega arith)))
+    let a = c.args in
+    rw (no_fill a.pcm c.if-pcm-eq0.true) (sym (put_none a.at a.buffer.now (omega arith)))
 
-returns_2 : tie.Need-returns-2
+returns_2 : tie.Need-returns-then-pcm-ge-PCM_SIZE
 returns_2 c =
-    let a = c.before.before.before.args in
-    rw (full_fill a.pcm c.if2.true) (sym (put_none a.at a.buffer.now (omega arith)))
+    let a = c.args in
+    rw (full_fill a.pcm c.if-pcm-ge-PCM_SIZE.true) (sym (put_none a.at a.buffer.now (omega arith)))
 
-put_fill_requires : tie.Need-put-fill-requires
+put_fill_requires : tie.Need-put_fill-requires
 put_fill_requires c κs =
-    let a = c.before.before.before.before.args in
-    (omega arith, omega arith, omega (arith, fill_long a.pcm c.before.before.if1.false c.before.if2.false))
+    let a = c.args in
+    (omega arith, omega arith, omega (arith, fill_long a.pcm c.if-pcm-eq0.false c.if-pcm-ge-PCM_SIZE.false))
 
-returns_3 : tie.Need-returns-3
+returns_3 : tie.Need-returns
 returns_3 c =
-    let a = c.before.before.before.before.before.before.before.args in
-    let p = c.before.before.before.before in
-    rw (some_fill a.pcm p.before.if1.false p.if2.false, item_two (Fill 2 a.pcm (1048576 - a.pcm) 0x80))
-    c.before.before.put_fill.ensures
+    let a = c.args in
+    rw (some_fill a.pcm c.if-pcm-eq0.false c.if-pcm-ge-PCM_SIZE.false, item_two (Fill 2 a.pcm (1048576 - a.pcm) 0x80))
+    c.put_fill.ensures
 
 pub put_pcm_fill_spec : {M : Type 1} → statement M
 put_pcm_fill_spec = tie.close (tie.spec returns returns_2 (search rules) (search rules) (search rules) put_fill_requires (search rules) returns_3)

@@ -62,7 +62,7 @@ use Rattle.sgub_pool_list.specs.contracts.store_pools.Key.{name as #sgub-pool-li
 use Rattle.sgub_pool_list.specs.contracts.store_pools as f
 use Rattle.sgub_pool_list.proofs.store_pools.Statement as stated
 use Rattle.sgub_pool_list.proofs.store_pools.Code as code
-use Rattle.sgub_pool_list.proofs.Lent.{stayed, slice, Lent, lent_of, x₂, s₁, s₂, args, vals, File, Run, n, ps, zs, zs_long, Upto, Nearer, Nearer-wf, inside-now, next_fits, bytes_fit, next}
+use Rattle.sgub_pool_list.proofs.Lent.{stayed, slice, Lent, lent_of, x₂, s₁, s₂, args, vals, File, Run, n, ps, zs, zs_long, Upto, Nearer, Nearer-wf, inside_now, next_fits, bytes_fit, next}
 use Rattle.sgub_pool_list.proofs.Lent.{Fits, Nth, said, said_nth, to, to_nth, Post, asks, asks_nth, exits}
 
 module _ {M : Type 1} {𝓤 : Ura M} (𝓛 : Logic 𝓤) (mem : Memory → SProp 𝓤) (run : Routine → Fun 𝓤) (x : Lent) where
@@ -127,12 +127,12 @@ module _ {M : Type 1} {𝓤 : Ura M} (𝓛 : Logic 𝓤) (mem : Memory → SProp
             (from ! (stop !)) (init ! 6 refl (tt, tt)) $
             rewrite ! 6 (λ (p : ℕ). ‵ (fat full_share ty_ptr l₁₁ 0 (vptr x.b p))) (sym (place_is 12 x.o i.0)) refl $
             elem_out ! T.the_row (Is T.the_row) (shows 𝓛 T.the_row) (LL.vals T.the_type T'.the_laws) (LL.tells T.the_type T'.the_laws) full_share
-            (ps x i.0) i.0 r x.b x.o (inside-now x i less) (λ _.
+            (ps x i.0) i.0 r x.b x.o (inside_now x i less) (λ _.
             -- [the element; what it owns; the others; ..]
             assigns ! (of_opd ! (load ! (from ! (stop !)) (look ! 16 refl))) (from ! (hop ! (look ! 8 refl) (stop !)))
             (store_raw ! 0 refl ((LL.lawful T.the_type T'.the_laws 𝓛).typed r _ is).0) $
             move ! (1 ∷ []) $ drop ! $ owned ! T.the_row (Is T.the_row) ((LL.makes T.the_type T'.the_plain) 𝓛) r _ is $ move ! (1 ∷ 0 ∷ []) $
-            elem_put ! T.the_row full_share (ps x i.0) i.0 r (LL.vals T.the_type T'.the_laws r) x.b x.o (inside-now x i less) $
+            elem_put ! T.the_row full_share (ps x i.0) i.0 r (LL.vals T.the_type T'.the_laws r) x.b x.o (inside_now x i less) $
             rewrite ! 0 (λ (l : List SgubPoolEntry). ‵ (row T.the_row full_share l x.b x.o)) (ap (set (ps x i.0) i.0) e ∙ pasted_next x.bs x.dir x.cnt x.ys i.0 less) refl $
             assigns_last ! (bin ! (load ! (from ! (stop !)) (look ! 16 refl)) (lit ! tt) (record { fits = next_fits x i less })) (from ! (stop !))
             (store ! 16 refl (tt, record { fits = next_fits x i less })) $

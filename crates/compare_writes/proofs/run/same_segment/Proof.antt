@@ -6,7 +6,7 @@ use mathlib.Core.Path.{◌≡◌, refl, sym, ◌∙◌}
 use Rattle.base_format.specs.Size.{record_size}
 use Rattle.compare_segment.specs.Segments.{source_step}
 use Rattle.compare_writes.specs.Match.{matched, matched_segment}
-use Rattle.compare_writes.proofs.Match.{matched_end, matched_short, matched-next, matched-differs, matched-skip}
+use Rattle.compare_writes.proofs.Match.{matched_end, matched_short, matched_next, matched_differs, matched_skip}
 use Rattle.compare_writes.proofs.Records.{counts, equals}
 use Rattle.compare_writes.proofs.run.same_segment.Statement.{statement}
 use Rattle.compare_writes.proofs.run.same_segment.Tie as tie
@@ -50,7 +50,7 @@ loop_again c =
     let is = item.decode-record.ensures in
     let kept = counts a.master.now l.at _ _ here is a.all k.is-kept.ensures value.before.if2.true in
     let same = equals a.master.now l.at _ _ here is a.other.now g.target l.address l.source value.byte_at.ensures c.before.same-record.ensures c.if3.true in
-    let next = matched-next a.all a.master.now a.other.now l.left l.at g.target l.address l.source (source_step g.copied) l.count (omega arith) test.loop-test.true in (
+    let next = matched_next a.all a.master.now a.other.now l.left l.at g.target l.address l.source (source_step g.copied) l.count (omega arith) test.loop-test.true in (
       omega arith,
       omega arith,
       omega (arith, step.step_of.ensures.1),
@@ -71,7 +71,7 @@ returns_2 c =
     let kept = counts a.master.now l.at _ _ here is a.all k.is-kept.ensures value.before.if2.true in
     let same = equals a.master.now l.at _ _ here is a.other.now g.target l.address l.source value.byte_at.ensures c.before.same-record.ensures c.if3.false in
     let some = test.loop-test.true in
-    let differs = matched-differs a.all a.master.now a.other.now l.left l.at g.target l.address l.source (source_step g.copied) l.count (omega arith) some in
+    let differs = matched_differs a.all a.master.now a.other.now l.left l.at g.target l.address l.source (source_step g.copied) l.count (omega arith) some in
     sym (l.invariant.3 ∙ differs kept same)
 
 loop_again_2 : tie.Need-loop-preserved-2 invariant_loop decreases_loop
@@ -83,7 +83,7 @@ loop_again_2 c =
     let a = test.before.before.before.before.before.before.args in
     let g = a.segment in
     let kept = counts a.master.now l.at _ _ item.before.item-bytes.ensures item.decode-record.ensures a.all k.is-kept.ensures c.if2.false in
-    let skip = matched-skip a.all a.master.now a.other.now l.left l.at g.target l.address l.source (source_step g.copied) l.count (omega arith) test.loop-test.true in
+    let skip = matched_skip a.all a.master.now a.other.now l.left l.at g.target l.address l.source (source_step g.copied) l.count (omega arith) test.loop-test.true in
     (omega arith, omega arith, omega arith, l.invariant.3 ∙ skip kept)
 
 returns_3 : tie.Need-returns-3 invariant_loop decreases_loop

@@ -141,8 +141,8 @@ module _ {M : Type 1} {𝓤 : Ura M} (𝓛 : Logic 𝓤) (at_mem : Memory → SP
       told_is : Is Y.the_row empty_told (LL.vals Y.the_type Y'.the_laws empty_told)
       told_is = LL.owes Y.the_type Y'.the_laws empty_told ((refl, lit< tt), ((refl, lit< tt), ((refl, lit< tt), (refl, tt))))
 
-      position-is : Is N.the_row r.to (LL.vals N.the_type N'.the_laws r.to)
-      position-is = (LL.owed Q.the_type Q'.the_laws r _ is).1.1.0
+      position_is : Is N.the_row r.to (LL.vals N.the_type N'.the_laws r.to)
+      position_is = (LL.owed Q.the_type Q'.the_laws r _ is).1.1.0
 
   module _ (C : Calls 𝓤 H) (Λ : Loops 𝓤 H) (fm : FmC 𝓤 H 𝓛.laws C) (Known-step : Triple 𝓤 (C #empty-step) (Decides 𝓛 at_mem run))
       (known-move : Triple 𝓤 (C #store-position) (Moves 𝓛 at_mem run)) (known : Triple 𝓤 (C #play·busy-vsync) (Advances 𝓛 at_mem run)) where
@@ -186,7 +186,7 @@ module _ {M : Type 1} {𝓤 : Ura M} (𝓛 : Logic 𝓤) (at_mem : Memory → SP
           shut 𝓛 at_mem run x _ _ tt was $
           -- [the state's token; state; file's token; run's token; run; file; the locals]
           assigns ! (addr ! (from ! (hop ! (look ! 36 refl) (stop !)))) (from ! (stop !)) (init ! 12 refl (tt, tt)) $
-          use2 𝓛 (raw ((Moves 𝓛 at_mem run).pre (to_move 𝓛 at_mem run x r.to))) (goes_move 𝓛 at_mem run x r.to (position-is was r is)) $
+          use2 𝓛 (raw ((Moves 𝓛 at_mem run).pre (to_move 𝓛 at_mem run x r.to))) (goes_move 𝓛 at_mem run x r.to (position_is was r is)) $
           calls_at ! fm (Moves 𝓛 at_mem run) known-move (to_move 𝓛 at_mem run x r.to)
           (and_then ! (load ! (from ! (stop !)) (look ! 11 refl)) (and_then ! (load ! (from ! (fld ! refl (stop !))) (look_in ! 27 (sub ! 2 refl (whole !)))) (no_more !))) (λ v.
           moved_on_lem 𝓛 at_mem run x r.to _ _ tt v (λ u is₂.

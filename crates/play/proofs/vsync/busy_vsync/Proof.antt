@@ -138,19 +138,19 @@ module _ {M : Type 1} {𝓤 : Ura M} (𝓛 : Logic 𝓤) (at_mem : Memory → SP
         nothing ! $ move ! (2 ∷ 0 ∷ []) $ join ! $ nothing ! $ move ! (1 ∷ 2 ∷ 0 ∷ []) $ join ! $ join ! $ done !
 
     module _ (r : Step) (is : Is Q.the_row r (LL.vals Q.the_type Q'.the_laws r)) where
-      version-fits : x.h.header.version < 2 ^ 8
-      version-fits = (LL.owed E.the_type E'.the_laws x.h.header _ (LL.owed P.the_type P'.the_laws x.h _ was).0).0.1
+      version_fits : x.h.header.version < 2 ^ 8
+      version_fits = (LL.owed E.the_type E'.the_laws x.h.header _ (LL.owed P.the_type P'.the_laws x.h _ was).0).0.1
 
       -- what it tells, and the position that it goes to, are values of their types
       told_is : Is Y.the_row (step_told r) (LL.vals Y.the_type Y'.the_laws (step_told r))
       told_is = LL.owes Y.the_type Y'.the_laws (step_told r) ((refl, lit< tt), ((refl, lit< tt), ((LL.owed Q.the_type Q'.the_laws r _ is).1.1.1.1.1.0, ((LL.owed Q.the_type Q'.the_laws r _ is).1.1.1.1.1.1.0, tt))))
 
-      position-is : Is N.the_row r.to (LL.vals N.the_type N'.the_laws r.to)
-      position-is = (LL.owed Q.the_type Q'.the_laws r _ is).1.1.1.1.1.1.1.0
+      position_is : Is N.the_row r.to (LL.vals N.the_type N'.the_laws r.to)
+      position_is = (LL.owed Q.the_type Q'.the_laws r _ is).1.1.1.1.1.1.1.0
 
       -- what `store_step`'s triple binds outside
-      abbrev to-store : (Stores 𝓛 at_mem run).Ghost
-      to-store = (
+      abbrev to_store : (Stores 𝓛 at_mem run).Ghost
+      to_store = (
         (
           (x.κ₃, (x.κ₂, tt)),
           (x.q₃, (x.q₂, tt)),
@@ -161,12 +161,12 @@ module _ {M : Type 1} {𝓤 : Ura M} (𝓛 : Logic 𝓤) (at_mem : Memory → SP
         tt,
       )
 
-      goes-store : ent 𝓤 (sep 𝓤 (A.lft x.κ₃ x.q₃) (sep 𝓤 (A.lft x.κ₂ x.q₂) (sep 𝓤 (sem 𝓛 (Run x)) (sem 𝓛 (File x))))) ((Stores 𝓛 at_mem run).pre to-store)
-      goes-store =
+      goes_store : ent 𝓤 (sep 𝓤 (A.lft x.κ₃ x.q₃) (sep 𝓤 (A.lft x.κ₂ x.q₂) (sep 𝓤 (sem 𝓛 (Run x)) (sem 𝓛 (File x))))) ((Stores 𝓛 at_mem run).pre to_store)
+      goes_store =
           qed 𝓛 (‵ (flft x.κ₃ x.q₃) ∷ ‵ (flft x.κ₂ x.q₂) ∷ (‵ (Run x) ⊛ ‵ (File x)) ∷ []) ∵ move ! (2 ∷ []) $ split ! $
           -- [run; file; run's token; file's token]
           nothing ! $ owned ! Q.the_row (Is Q.the_row) ((LL.makes Q.the_type Q'.the_plain) 𝓛) r _ is $ fjoin ! $
-          owned ! u8 (Is u8) (uint_Makes 𝓛 w8) x.h.header.version _ (refl, version-fits) $ fjoin ! $ move ! (2 ∷ 0 ∷ []) $ fjoin ! $ move ! (1 ∷ 0 ∷ []) $ fjoin ! $
+          owned ! u8 (Is u8) (uint_Makes 𝓛 w8) x.h.header.version _ (refl, version_fits) $ fjoin ! $ move ! (2 ∷ 0 ∷ []) $ fjoin ! $ move ! (1 ∷ 0 ∷ []) $ fjoin ! $
           nothing ! $ move ! (3 ∷ 0 ∷ []) $ join ! $ move ! (2 ∷ 0 ∷ []) $ join ! $ nothing ! $ move ! (1 ∷ 2 ∷ 0 ∷ []) $ join ! $ join ! $ done !
 
   module _ (C : Calls 𝓤 H) (Λ : Loops 𝓤 H) (fm : FmC 𝓤 H 𝓛.laws C) (Known-step : Triple 𝓤 (C #quick-step) (Decides 𝓛 at_mem run))
@@ -217,7 +217,7 @@ module _ {M : Type 1} {𝓤 : Ura M} (𝓛 : Logic 𝓤) (at_mem : Memory → SP
           shut 𝓛 at_mem run x _ _ tt was $
           -- [the state's token; state; file's token; run's token; the last run; file; the locals]
           assigns ! (addr ! (from ! (hop ! (look ! 32 refl) (stop !)))) (from ! (stop !)) (init ! 12 refl (tt, tt)) $
-          use2 𝓛 (raw ((Moves 𝓛 at_mem run).pre (to_move 𝓛 at_mem run x r.to))) (goes_move 𝓛 at_mem run x r.to (position-is was r is)) $
+          use2 𝓛 (raw ((Moves 𝓛 at_mem run).pre (to_move 𝓛 at_mem run x r.to))) (goes_move 𝓛 at_mem run x r.to (position_is was r is)) $
           calls_at ! fm (Moves 𝓛 at_mem run) known-move (to_move 𝓛 at_mem run x r.to)
           (and_then ! (load ! (from ! (stop !)) (look ! 11 refl)) (and_then ! (load ! (from ! (fld ! refl (stop !))) (look_in ! 23 (sub ! 7 refl (whole !)))) (no_more !))) (λ v.
           moved_on_lem 𝓛 at_mem run x r.to _ _ tt v (λ u is₂.
@@ -243,16 +243,16 @@ module _ {M : Type 1} {𝓤 : Ura M} (𝓛 : Logic 𝓤) (at_mem : Memory → SP
           assigns ! (agg ! (and_then ! (load ! (from ! (stop !)) (look ! 18 refl)) (and_then ! (load ! (from ! (fld ! refl (stop !))) (look_in ! 30 (sub ! 1 refl (whole !)))) (no_more !))))
           (from ! (stop !)) (init ! 16 refl (tt, (tt, (record { fits = room₃.0 }, tt)))) $
           move ! (7 ∷ []) $ use1 𝓛 (‵ (File x) ⊛ ‵ (File x)) ((shr_slice_copy 𝓛 (named 1) x.κ₂ u8).twice (x₂ x) ((s₂ x) ∷ [])) $ split ! $ move ! (8 ∷ 0 ∷ []) $ join ! $ move ! (7 ∷ 6 ∷ 0 ∷ []) $
-          use3 𝓛 (raw ((Stores 𝓛 at_mem run).pre (to-store was r is))) (goes-store was r is) $
+          use3 𝓛 (raw ((Stores 𝓛 at_mem run).pre (to_store was r is))) (goes_store was r is) $
           -- [the callee's need; file; the state's cell; the open borrow; obs; auth; the locals]
-          calls_at ! fm (Stores 𝓛 at_mem run) known_store (to-store was r is)
+          calls_at ! fm (Stores 𝓛 at_mem run) known_store (to_store was r is)
           (and_then ! (load ! (from ! (stop !)) (look ! 14 refl))
           (and_then ! (load ! (from ! (stop !)) (look ! 30 refl))
           (and_then ! (load ! (from ! (fld ! refl (fld ! refl (stop !)))) (look_in ! 26 (sub ! 0 refl (sub ! 0 refl (whole !))))) (and_then ! (load ! (from ! (stop !)) (look ! 24 refl)) (no_more !))))) (λ v.
           use1 𝓛 (later (some (λ (u : Unit {0}). ((‵ (flft x.κ₃ x.q₃) ⊛ ‵ (flft x.κ₂ x.q₂) ⊛ ‵ ftrue) ⊛ ‵ (Nothing.own u (v ∷ [])))
-          ⊛ raw (ensured 𝓛 ss.ended (ss.clauses 𝓛 at_mem run) (x.κ₃, (x.κ₂, tt)) (to-store was r is).0.3 tt u)))) (id⊢ 𝓤 _) $ await ! tt $ pick ! (λ u.
-          split ! $ move ! (1 ∷ []) $ use1 𝓛 (some (λ (zs : Lasts ss.ended (x.κ₃, (x.κ₂, tt)) (to-store was r is).0.3).
-          ‵ (lasts ss.ended (x.κ₃, (x.κ₂, tt)) (to-store was r is).0.3 zs) ⊛ raw (fact 𝓤 (Wrote r zs.0)))) (id⊢ 𝓤 _) $ pick ! (λ zs.
+          ⊛ raw (ensured 𝓛 ss.ended (ss.clauses 𝓛 at_mem run) (x.κ₃, (x.κ₂, tt)) (to_store was r is).0.3 tt u)))) (id⊢ 𝓤 _) $ await ! tt $ pick ! (λ u.
+          split ! $ move ! (1 ∷ []) $ use1 𝓛 (some (λ (zs : Lasts ss.ended (x.κ₃, (x.κ₂, tt)) (to_store was r is).0.3).
+          ‵ (lasts ss.ended (x.κ₃, (x.κ₂, tt)) (to_store was r is).0.3 zs) ⊛ raw (fact 𝓤 (Wrote r zs.0)))) (id⊢ 𝓤 _) $ pick ! (λ zs.
           split ! $ move ! (1 ∷ []) $ heard ! (Wrote r zs.0) (λ wrote. fsplit ! $ fsplit ! $ move ! (1 ∷ []) $ feq_l ! (λ l.
           -- [what says the last list; the rest of that; the tokens and the result; file; the state's four; the locals]
           move ! (2 ∷ []) $ split ! $ move ! (1 ∷ []) $ peeks ! Nothing (Is Nothing) (shows 𝓛 Nothing) u (v ∷ []) (λ is₂. drop ! $

@@ -12,78 +12,70 @@ use Rattle.play_plan_part.proofs.PlannedOperations.{planned_operations_25}
 use Rattle.play_plan_part.proofs.operations.plan_operations.Statement.{statement}
 use Rattle.play_plan_part.proofs.operations.plan_operations.Tie as tie
 
-abbrev invariant_loop : tie.invariant-loop
+abbrev invariant_loop : tie.invariant-loop-left
 invariant_loop file state limit room progress waves₀ cursor₀ operations₀ writes₀ free₀ left₀ waves cursor operations writes free left =
     (free ≤ room) × (operations + left < 2 ^ 32) × (as25 (planned_operations state file limit (operations_left progress) room progress) ≡ as25 (planned_operations state file limit left free (placed progress cursor operations writes waves)))
 
-abbrev decreases_loop : tie.decreases-loop
+abbrev decreases_loop : tie.decreases-loop-left
 decreases_loop file state limit room progress waves₀ cursor₀ operations₀ writes₀ free₀ left₀ waves cursor operations writes free left = left
 
-loop_holds : tie.Need-loop-init invariant_loop decreases_loop
-loop_holds c = (omega arith, c.operations-left.ensures.1, rw c.operations-left.ensures.0)
+loop_holds : tie.Need-loop-left-init invariant_loop decreases_loop
+loop_holds c = (omega arith, c.operations_left-left.ensures.1, rw c.operations_left-left.ensures.0)
 
-returns : tie.Need-returns invariant_loop decreases_loop
+returns : tie.Need-returns-then-free-eq0 invariant_loop decreases_loop
 returns c =
-    let l = c.before.before.before.before in
-    let a = l.before.before.before.before.args in (
-      rw (l.loop.invariant.2, c.answer.ensures, c.before.placed.ensures, c.before.before.if1.true, planned_operations_full a.state a.file.now a.limit l.loop.left),
+    let a = c.args in (
+      rw (c.loop-left.invariant.2, c.answer.ensures, c.placed.ensures, c.if-free-eq0.true, planned_operations_full a.state a.file.now a.limit c.loop-left.left),
       rw c.answer.ensures (omega arith),
       rw c.answer.ensures (λ e. absurd (false≢true e)),
     )
 
-returns_2 : tie.Need-returns-2 invariant_loop decreases_loop
+returns_2 : tie.Need-returns-then-started invariant_loop decreases_loop
 returns_2 c =
-    let start = c.before.before in
-    let l = start.before.before.before in
-    let a = l.before.before.before.before.args in
-    let p = placed a.progress l.loop.cursor l.loop.operations l.loop.writes l.loop.waves in (
-      rw (l.loop.invariant.2, planned_operations_25 a.state a.file.now a.limit l.loop.left l.loop.free p (omega arith) (omega arith), ← start.start-item.ensures.0, c.before.if2.true, c.answer2.ensures),
-      rw c.answer2.ensures (omega arith),
-      rw c.answer2.ensures (λ e. (refl, refl)),
+    let a = c.args in
+    let p = placed a.progress c.loop-left.cursor c.loop-left.operations c.loop-left.writes c.loop-left.waves in (
+      rw (c.loop-left.invariant.2, planned_operations_25 a.state a.file.now a.limit c.loop-left.left c.loop-left.free p (omega arith) (omega arith), ← c.start_item-started.ensures.0, c.if-started.true, c.answer-then-started.ensures),
+      rw c.answer-then-started.ensures (omega arith),
+      rw c.answer-then-started.ensures (λ e. (refl, refl)),
     )
 
-returns_3 : tie.Need-returns-3 invariant_loop decreases_loop
+returns_3 : tie.Need-returns-then-free-rest invariant_loop decreases_loop
 returns_3 c =
-    let start = c.before.before.before.before.before in
-    let l = start.before.before.before in
-    let a = l.before.before.before.before.args in
-    let p = placed a.progress l.loop.cursor l.loop.operations l.loop.writes l.loop.waves in (
+    let a = c.args in
+    let p = placed a.progress c.loop-left.cursor c.loop-left.operations c.loop-left.writes c.loop-left.waves in (
       rw (
-        l.loop.invariant.2,
-        planned_operations_25 a.state a.file.now a.limit l.loop.left l.loop.free p (omega arith) (omega arith),
-        ← start.start-item.ensures.0,
-        c.before.before.before.before.if2.false,
-        lt-ltb _ _ c.before.before.if3.true,
-        c.answer3.ensures,
-        c.before.placed2.ensures,
+        c.loop-left.invariant.2,
+        planned_operations_25 a.state a.file.now a.limit c.loop-left.left c.loop-left.free p (omega arith) (omega arith),
+        ← c.start_item-started.ensures.0,
+        c.if-started.false,
+        lt-ltb _ _ c.if-free-rest.true,
+        c.answer-then-free-rest.ensures,
+        c.placed-then-free-rest.ensures,
       ),
-      rw c.answer3.ensures (omega arith),
-      rw c.answer3.ensures (λ e. absurd (false≢true e)),
+      rw c.answer-then-free-rest.ensures (omega arith),
+      rw c.answer-then-free-rest.ensures (λ e. absurd (false≢true e)),
     )
 
-loop_less : tie.Need-loop-smaller invariant_loop decreases_loop
+loop_less : tie.Need-loop-left-smaller invariant_loop decreases_loop
 loop_less c = omega arith
 
-loop_again : tie.Need-loop-preserved invariant_loop decreases_loop
+loop_again : tie.Need-loop-left-preserved invariant_loop decreases_loop
 loop_again c =
-    let start = c.before.before.before in
-    let l = start.before.before.before in
-    let a = l.before.before.before.before.args in
-    let turn = l.loop in
+    let a = c.args in
+    let turn = c.loop-left in
     let p = placed a.progress turn.cursor turn.operations turn.writes turn.waves in (
       omega arith,
       omega arith,
-      rw (turn.invariant.2, planned_operations_25 a.state a.file.now a.limit turn.left turn.free p (omega arith) (omega arith), ← start.start-item.ensures.0, c.before.before.if2.false, le-ltb _ _ c.if3.false),
+      rw (turn.invariant.2, planned_operations_25 a.state a.file.now a.limit turn.left turn.free p (omega arith) (omega arith), ← c.start_item-started.ensures.0, c.if-started.false, le-ltb _ _ c.if-free-rest.false),
     )
 
-returns_4 : tie.Need-returns-4 invariant_loop decreases_loop
+returns_4 : tie.Need-returns invariant_loop decreases_loop
 returns_4 c =
-    let l = c.before.before.before in
-    let a = l.before.before.before.before.args in
-    let none : l.loop.left ≡ 0 = omega arith in (
-      rw (l.loop.invariant.2, c.answer4.ensures, c.before.placed3.ensures, none, planned_operations_end a.state a.file.now a.limit l.loop.free),
-      rw c.answer4.ensures (omega arith),
-      rw c.answer4.ensures (λ e. absurd (false≢true e)),
+    let a = c.args in
+    let none : c.loop-left.left ≡ 0 = omega arith in (
+      rw (c.loop-left.invariant.2, c.answer-2.ensures, c.placed-2.ensures, none, planned_operations_end a.state a.file.now a.limit c.loop-left.free),
+      rw c.answer-2.ensures (omega arith),
+      rw c.answer-2.ensures (λ e. absurd (false≢true e)),
     )
 
 pub plan_operations_spec : {M : Type 1} → statement M

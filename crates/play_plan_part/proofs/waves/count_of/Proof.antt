@@ -3,14 +3,14 @@ use borrow.Author.Rules.{rules}
 use Rattle.play_plan_part.proofs.waves.count_of.Statement.{statement}
 use Rattle.play_plan_part.proofs.waves.count_of.Tie as tie
 
-returns : tie.Need-returns
-returns c = rw c.enum_told.given.1
+returns : tie.Need-returns-in-Write
+returns c = rw c.in-Write.is
 
-returns_2 : tie.Need-returns-2
-returns_2 c = rw c.before.operation.given.1
+returns_2 : tie.Need-returns-in-Fill
+returns_2 c = rw c.in-Fill.is
 
-returns_3 : tie.Need-returns-3
-returns_3 c = rw c.before.operation2.given.1
+returns_3 : tie.Need-returns-in-Copy
+returns_3 c = rw c.in-Copy.is
 
 pub count_of_spec : {M : Type 1} → statement M
 count_of_spec = tie.close (tie.spec (search rules) (search rules) (search rules) returns returns_2 returns_3)

@@ -7,21 +7,21 @@ use Rattle.base_format.specs.declared.pool.Pool.{Pool}
 use Rattle.play_plan_part.proofs.waves.waves_by.Statement.{statement}
 use Rattle.play_plan_part.proofs.waves.waves_by.Tie as tie
 
-returns : tie.Need-returns
+returns : tie.Need-returns-then-entry-eq1
 unfolding waves_by
-returns c = rw (c.before.before.before.before.before.operation.given.1, eq-eqb _ _ (ap (λ (pool : Pool). pool.kind) (sym c.before.before.before.read-pool.ensures) ∙ c.before.if1.true)) c.waves-with.ensures
+returns c = rw (c.in-Copy.is, eq-eqb _ _ (ap (λ (pool : Pool). pool.kind) (sym c.read_pool-entry.ensures) ∙ c.if-entry-eq1.true)) c.waves_with.ensures
 
-returns_2 : tie.Need-returns-2
+returns_2 : tie.Need-returns-in-Write
 unfolding waves_by
-returns_2 c = rw c.enum_told.given.1
+returns_2 c = rw c.in-Write.is
 
-returns_3 : tie.Need-returns-3
+returns_3 : tie.Need-returns-in-Fill
 unfolding waves_by
-returns_3 c = rw c.enum-told2.given.1
+returns_3 c = rw c.in-Fill.is
 
-returns_4 : tie.Need-returns-4
+returns_4 : tie.Need-returns-else-entry-eq1
 unfolding waves_by
-returns_4 c = rw (c.before.before.before.before.operation.given.1, ne_eqb _ _ (λ e. c.if1.false (ap (λ (pool : Pool). pool.kind) c.before.before.read-pool.ensures ∙ e)))
+returns_4 c = rw (c.in-Copy.is, ne_eqb _ _ (λ e. c.if-entry-eq1.false (ap (λ (pool : Pool). pool.kind) c.read_pool-entry.ensures ∙ e)))
 
 pub waves_by_spec : {M : Type 1} → statement M
 waves_by_spec = tie.close (tie.spec (search rules) (search rules) (search rules) (search rules) (search rules) (search rules) returns returns_2 returns_3 returns_4)

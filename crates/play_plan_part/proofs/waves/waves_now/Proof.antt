@@ -4,11 +4,11 @@ use borrow.Author.Tests.{eq-eqb, ne_eqb}
 use Rattle.play_plan_part.proofs.waves.waves_now.Statement.{statement}
 use Rattle.play_plan_part.proofs.waves.waves_now.Tie as tie
 
-returns : tie.Need-returns
-returns c = rw (eq-eqb _ _ c.before.if1.true) c.waves-by.ensures
+returns : tie.Need-returns-then-writes-eq0
+returns c = rw (eq-eqb _ _ c.if-writes-eq0.true) c.waves_by.ensures
 
-returns_2 : tie.Need-returns-2
-returns_2 c = rw (ne_eqb _ _ c.if1.false)
+returns_2 : tie.Need-returns
+returns_2 c = rw (ne_eqb _ _ c.if-writes-eq0.false)
 
 pub waves_now_spec : {M : Type 1} → statement M
 waves_now_spec = tie.close (tie.spec (search rules) returns returns_2)

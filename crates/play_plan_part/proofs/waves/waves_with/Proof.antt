@@ -7,8 +7,8 @@ use mathlib.Core.Bool.{true}
 use Rattle.play_plan_part.proofs.waves.waves_with.Statement.{statement}
 use Rattle.play_plan_part.proofs.waves.waves_with.Tie as tie
 
-returns_2 : tie.Need-returns-2
-returns_2 c = rw (set_out c.before.args.waves (c.before.args.target * 8 + c.before.args.address / 256) (record { copied = true; pool = c.before.args.id }) (omega arith))
+returns_2 : tie.Need-returns
+returns_2 c = rw (set_out c.args.waves (c.args.target * 8 + c.args.address / 256) (record { copied = true; pool = c.args.id }) (omega arith))
 
 pub waves_with_spec : {M : Type 1} → statement M
 waves_with_spec = tie.close (tie.spec (search rules) (search rules) (search rules) (search rules) (search rules) returns_2)
