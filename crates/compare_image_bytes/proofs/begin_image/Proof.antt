@@ -7,8 +7,8 @@ use Rattle.compare_image_bytes.proofs.begin_image.Tie as tie
 
 returns : tie.Need-returns
 returns c =
-    let a = c.before.before.before.before.before.args in
-    c.before.before.fill.ensures ∙ fill_all a.image.now 0x80
+    let a = c.args in
+    c.fill.ensures ∙ fill_all a.image.now 0x80
 
 pub begin_image_spec : {M : Type 1} → statement M
 begin_image_spec = tie.close (tie.spec (search rules) (search rules) returns)

@@ -11,28 +11,28 @@ use Rattle.compare_image_bytes.proofs.Image.{copy_step, copy_end}
 use Rattle.compare_image_bytes.proofs.copy.Statement.{statement}
 use Rattle.compare_image_bytes.proofs.copy.Tie as tie
 
-abbrev invariant_loop : tie.invariant-loop
+abbrev invariant_loop : tie.invariant-loop-left
 invariant_loop image₀ address count file source at₀ left₀ from₀ image at left from =
     (length image ≡ length image₀)
     × (at + left ≡ address + count)
     × (from + left ≤ 0x2000000100000000)
     × (played image₀ (spread file 2 address source 1 count) ≡ played image (spread file 2 at from 1 left))
 
-abbrev decreases_loop : tie.decreases-loop
+abbrev decreases_loop : tie.decreases-loop-left
 decreases_loop image₀ address count file source at₀ left₀ from₀ image at left from =
     left
 
-loop_again : tie.Need-loop-preserved invariant_loop decreases_loop
+loop_again : tie.Need-loop-left-preserved invariant_loop decreases_loop
 loop_again c =
-    let l = c.before.before.loop in
-    let a = c.before.before.before.before.before.args in
-    let step = copy_step a.file.now l.image l.at l.from 1 l.left c.before.loop-test.true in
+    let l = c.loop-left in
+    let a = c.args in
+    let step = copy_step a.file.now l.image l.at l.from 1 l.left c.loop-left-test.true in
     (length-set l.image l.at c.byte_at.result ∙ l.invariant.0, omega arith, omega arith, l.invariant.3 ∙ step ∙ rw (← c.byte_at.ensures))
 
 returns : tie.Need-returns invariant_loop decreases_loop
 returns c =
-    let l = c.before.loop in
-    let a = c.before.before.before.before.args in
+    let l = c.loop-left in
+    let a = c.args in
     let none : l.left ≡ 0 = omega arith in
     rw (l.invariant.3, none) (sym (copy_end a.file.now l.image l.at l.from 1))
 
@@ -40,4 +40,4 @@ pub copy_spec : {M : Type 1} → statement M
 copy_spec =
     tie.close
     (tie.spec invariant_loop decreases_loop (λ c. (refl, refl, omega arith, refl)) (search rules) (search rules) (search rules) (search rules) (search rules) (search rules) loop_again
-    (λ c. c.before.loop.invariant.0) returns)
+    (λ c. c.loop-left.invariant.0) returns)

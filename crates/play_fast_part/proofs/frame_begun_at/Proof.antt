@@ -9,17 +9,15 @@ use borrow.Author.Rules.{rules}
 use Rattle.play_fast_part.proofs.frame_begun_at.Statement.{statement}
 use Rattle.play_fast_part.proofs.frame_begun_at.Tie as tie
 
-returns_2 : tie.Need-returns-2
+returns_2 : tie.Need-returns
 unfolding frame_begun_at
 returns_2 c =
-    let f = c.before in
-    let n = f.before in
-    rw (← n.before.before.passes.ensures, n.before.if1.false, ← n.read-u16.ensures, ← f.frame-from.ensures) c.Going-on.ensures
+    rw (← c.passes.ensures, c.if-passes.false, ← c.read_u16-total.ensures, ← c.frame_from.ensures) c.going_on.ensures
 
 pub frame_begun_at_spec : {M : Type 1} → statement M
 unfolding frame_begun_at
 frame_begun_at_spec =
     tie.close
-    (tie.spec (search rules) (search rules) (λ c. rw (← c.before.before.passes.ensures, c.before.if1.true) c.no-playing-part.ensures) (search rules) (search rules)
-    (λ c. let a = c.before.before.before.before.args in omega (arith, ltb-false (length a.file.now) (a.place + 2) (sym c.before.before.passes.ensures ∙ c.before.if1.false)))
+    (tie.spec (search rules) (search rules) (λ c. rw (← c.passes.ensures, c.if-passes.true) c.no_playing_part.ensures) (search rules) (search rules)
+    (λ c. let a = c.args in omega (arith, ltb-false (length a.file.now) (a.place + 2) (sym c.passes.ensures ∙ c.if-passes.false)))
     (search rules) (search rules) (search rules) returns_2)

@@ -5,23 +5,20 @@ use borrow.Author.Rules.{rules}
 use Rattle.play_fast_part.proofs.part_between.Statement.{statement}
 use Rattle.play_fast_part.proofs.part_between.Tie as tie
 
-returns : tie.Need-returns
+returns : tie.Need-returns-then-next-eq-OPENING
 unfolding part_between
 returns c =
-    let t = c.before.before.before in
-    simp (← t.before.before.next-part.ensures.0, eq-eqb _ _ t.if1.true, ← c.before.before.opening-limit.ensures, ← c.before.opening-from.ensures, ← c.Going-on.ensures)
+    simp (← c.next_part-next.ensures.0, eq-eqb _ _ c.if-next-eq-OPENING.true, ← c.opening_limit-limit.ensures, ← c.opening_from.ensures, ← c.going_on.ensures)
 
-returns_2 : tie.Need-returns-2
+returns_2 : tie.Need-returns-then-next-eq-FRAME
 unfolding part_between
 returns_2 c =
-    let t = c.before.before.before in
-    simp (← t.before.before.next-part.ensures.0, ne_eqb _ _ t.if1.false, eq-eqb _ _ c.before.if2.true, ← c.frame-begun-at.ensures)
+    simp (← c.next_part-next.ensures.0, ne_eqb _ _ c.if-next-eq-OPENING.false, eq-eqb _ _ c.if-next-eq-FRAME.true, ← c.frame_begun_at.ensures)
 
-returns_3 : tie.Need-returns-3
+returns_3 : tie.Need-returns
 unfolding part_between
 returns_3 c =
-    let t = c.before.before.before in
-    simp (← t.before.before.next-part.ensures.0, ne_eqb _ _ t.if1.false, ne_eqb _ _ c.before.if2.false, ← c.no-playing-part.ensures)
+    simp (← c.next_part-next.ensures.0, ne_eqb _ _ c.if-next-eq-OPENING.false, ne_eqb _ _ c.if-next-eq-FRAME.false, ← c.no_playing_part.ensures)
 
 pub part_between_spec : {M : Type 1} → statement M
 part_between_spec = tie.close (tie.spec (search rules) (search rules) (search rules) (search rules) returns (search rules) returns_2 (search rules) returns_3)

@@ -5,25 +5,23 @@ use borrow.Author.Rules.{rules}
 use Rattle.play_fast_part.proofs.under_way.Statement.{statement}
 use Rattle.play_fast_part.proofs.under_way.Tie as tie
 
-returns : tie.Need-returns
+returns : tie.Need-returns-then-part-eq-OPENING
 unfolding under_way
-returns c = simp (eq-eqb _ _ c.before.before.before.if1.true, ← c.before.before.opening-limit.ensures, ← c.before.position-of.ensures, ← c.Going-on.ensures)
+returns c = simp (eq-eqb _ _ c.if-part-eq-OPENING.true, ← c.opening_limit-limit.ensures, ← c.position_of.ensures, ← c.going_on.ensures)
 
-returns_2 : tie.Need-returns-2
+returns_2 : tie.Need-returns-then-part-ne-FRAME
 unfolding under_way
-returns_2 c = simp (ne_eqb _ _ c.before.before.if1.false, ne_eqb _ _ c.before.if2.true, ← c.no-playing-part.ensures)
+returns_2 c = simp (ne_eqb _ _ c.if-part-eq-OPENING.false, ne_eqb _ _ c.if-part-ne-FRAME.true, ← c.no_playing_part.ensures)
 
-returns_3 : tie.Need-returns-3
+returns_3 : tie.Need-returns-then-not-progress
 unfolding under_way
 returns_3 c =
-    let t = c.before.before.before in
-    simp (ne_eqb _ _ t.before.if1.false, eq-eqb _ _ t.if2.false, c.before.if3.true, ← c.no-playing-part2.ensures)
+    simp (ne_eqb _ _ c.if-part-eq-OPENING.false, eq-eqb _ _ c.if-part-ne-FRAME.false, c.if-not-progress.true, ← c.no_playing_part-then-not-progress.ensures)
 
-returns_4 : tie.Need-returns-4
+returns_4 : tie.Need-returns
 unfolding under_way
 returns_4 c =
-    let t = c.before.before.before.before in
-    simp (ne_eqb _ _ t.before.if1.false, eq-eqb _ _ t.if2.false, c.before.before.if3.false, ← c.before.position-of2.ensures, ← c.going-on2.ensures)
+    simp (ne_eqb _ _ c.if-part-eq-OPENING.false, eq-eqb _ _ c.if-part-ne-FRAME.false, c.if-not-progress.false, ← c.position_of-2.ensures, ← c.going_on-2.ensures)
 
 pub under_way_spec : {M : Type 1} → statement M
 under_way_spec = tie.close (tie.spec (search rules) (search rules) (search rules) returns (search rules) returns_2 (search rules) returns_3 (search rules) (search rules) returns_4)

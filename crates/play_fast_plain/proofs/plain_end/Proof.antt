@@ -6,42 +6,38 @@ use Rattle.play_fast_plain.specs.Plain.{plain_end}
 use Rattle.play_fast_plain.proofs.plain_end.Statement.{statement}
 use Rattle.play_fast_plain.proofs.plain_end.Tie as tie
 
-returns : tie.Need-returns
+returns : tie.Need-returns-then-target-lt2
 unfolding plain_end
-returns c = simp (lt-leb _ _ c.if1.true, lt-ltb _ _ c.if1.true, and-false, or-false)
+returns c = simp (lt-leb _ _ c.if-target-lt2.true, lt-ltb _ _ c.if-target-lt2.true, and-false, or-false)
 
-returns_2 : tie.Need-returns-2
+returns_2 : tie.Need-returns-then-target-eq2
 unfolding plain_end
-returns_2 c = simp (le-ltb _ _ c.before.if1.false, le-leb _ _ c.before.if1.false, eq-eqb _ _ c.if2.true, and-false, or-false)
+returns_2 c = simp (le-ltb _ _ c.if-target-lt2.false, le-leb _ _ c.if-target-lt2.false, eq-eqb _ _ c.if-target-eq2.true, and-false, or-false)
 
-returns_3 : tie.Need-returns-3
+returns_3 : tie.Need-returns-then-target-eq3
 unfolding plain_end
 returns_3 c =
-    let t = c.before.before in
-    simp (le-ltb _ _ t.before.if1.false, le-leb _ _ t.before.if1.false, ne_eqb _ _ t.if2.false, eq-eqb _ _ c.before.if3.true, eq-eqb _ _ c.if4.true, and-false, or-false)
+    simp (le-ltb _ _ c.if-target-lt2.false, le-leb _ _ c.if-target-lt2.false, ne_eqb _ _ c.if-target-eq2.false, eq-eqb _ _ c.if-version-eq3.true, eq-eqb _ _ c.if-target-eq3.true, and-false, or-false)
 
-returns_4 : tie.Need-returns-4
+returns_4 : tie.Need-returns-then-version-eq3
 unfolding plain_end
 returns_4 c =
-    let t = c.before.before in
-    simp (le-ltb _ _ t.before.if1.false, le-leb _ _ t.before.if1.false, ne_eqb _ _ t.if2.false, eq-eqb _ _ c.before.if3.true, ne_eqb _ _ c.if4.false, and-false, or-false)
+    simp (le-ltb _ _ c.if-target-lt2.false, le-leb _ _ c.if-target-lt2.false, ne_eqb _ _ c.if-target-eq2.false, eq-eqb _ _ c.if-version-eq3.true, ne_eqb _ _ c.if-target-eq3.false, and-false, or-false)
 
-returns_5 : tie.Need-returns-5
+returns_5 : tie.Need-returns-then-target-eq11
 unfolding plain_end
 returns_5 c =
-    let t = c.before.before.before in
-    simp (le-ltb _ _ t.before.if1.false, le-leb _ _ t.before.if1.false, ne_eqb _ _ t.if2.false, ne_eqb _ _ c.before.before.if3.false, eq-eqb _ _ c.before.if5.true, eq-eqb _ _ c.if6.true, and-false, or-false)
+    simp (le-ltb _ _ c.if-target-lt2.false, le-leb _ _ c.if-target-lt2.false, ne_eqb _ _ c.if-target-eq2.false, ne_eqb _ _ c.if-version-eq3.false, eq-eqb _ _ c.if-version-eq4.true, eq-eqb _ _ c.if-target-eq11.true, and-false, or-false)
 
-returns_6 : tie.Need-returns-6
+returns_6 : tie.Need-returns-then-version-eq4
 unfolding plain_end
 returns_6 c =
-    let t = c.before.before.before in
-    simp (le-ltb _ _ t.before.if1.false, le-leb _ _ t.before.if1.false, ne_eqb _ _ t.if2.false, ne_eqb _ _ c.before.before.if3.false, eq-eqb _ _ c.before.if5.true, ne_eqb _ _ c.if6.false, and-false, or-false)
+    simp (le-ltb _ _ c.if-target-lt2.false, le-leb _ _ c.if-target-lt2.false, ne_eqb _ _ c.if-target-eq2.false, ne_eqb _ _ c.if-version-eq3.false, eq-eqb _ _ c.if-version-eq4.true, ne_eqb _ _ c.if-target-eq11.false, and-false, or-false)
 
-returns_7 : tie.Need-returns-7
+returns_7 : tie.Need-returns
 unfolding plain_end
 returns_7 c =
-    simp (le-ltb _ _ c.before.before.before.if1.false, le-leb _ _ c.before.before.before.if1.false, ne_eqb _ _ c.before.before.if2.false, ne_eqb _ _ c.before.if3.false, ne_eqb _ _ c.if5.false, and-false, or-false)
+    simp (le-ltb _ _ c.if-target-lt2.false, le-leb _ _ c.if-target-lt2.false, ne_eqb _ _ c.if-target-eq2.false, ne_eqb _ _ c.if-version-eq3.false, ne_eqb _ _ c.if-version-eq4.false, and-false, or-false)
 
 pub plain_end_spec : {M : Type 1} → statement M
 plain_end_spec = tie.close (tie.spec (search rules) returns (search rules) returns_2 (search rules) returns_3 returns_4 (search rules) returns_5 returns_6 returns_7)

@@ -8,16 +8,16 @@ use Rattle.play_fast_plain.proofs.Items.{size_small}
 use Rattle.play_fast_plain.proofs.plain_size.Statement.{statement}
 use Rattle.play_fast_plain.proofs.plain_size.Tie as tie
 
-returns : tie.Need-returns
+returns : tie.Need-returns-then-version-eq1
 unfolding plain_size
-returns c = (rw (eq-eqb _ _ c.if1.true), omega arith)
+returns c = (rw (eq-eqb _ _ c.if-version-eq1.true), omega arith)
 
-returns_2 : tie.Need-returns-2
+returns_2 : tie.Need-returns
 unfolding plain_size
 returns_2 c =
-    let size = c.operation-size.ensures.0 in
-    let version = c.before.before.before.args.version in
-    let plain : c.operation-size.result ≡ plain_size version = rw (ne_eqb _ _ c.before.before.if1.false, ← c.before.address-width.ensures.0) size in
+    let size = c.operation_size.ensures.0 in
+    let version = c.args.version in
+    let plain : c.operation_size.result ≡ plain_size version = rw (ne_eqb _ _ c.if-version-eq1.false, ← c.address_width.ensures.0) size in
     (plain, omega (arith, plain, size_small version))
 
 pub plain_size_spec : {M : Type 1} → statement M

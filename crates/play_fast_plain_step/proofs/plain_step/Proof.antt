@@ -5,23 +5,19 @@ use borrow.Author.Rules.{rules}
 use Rattle.play_fast_plain_step.proofs.plain_step.Statement.{statement}
 use Rattle.play_fast_plain_step.proofs.plain_step.Tie as tie
 
-returns : tie.Need-returns
+returns : tie.Need-returns-then-at-ne0
 unfolding plain_step
-returns c = simp (ne_eqb _ _ c.before.if1.true, ← c.no_step.ensures)
+returns c = simp (ne_eqb _ _ c.if-at-ne0.true, ← c.no_step.ensures)
 
-returns_2 : tie.Need-returns-2
+returns_2 : tie.Need-returns-then-behind-eq0
 unfolding plain_step
 returns_2 c =
-    let b = c.before.before in
-    let l = b.before.before in
-    simp (eq-eqb _ _ l.before.if1.false, ← l.operations-left.ensures.0, ← b.before.smaller.ensures.0, ← b.plain-behind.ensures, eq-eqb _ _ c.before.if2.true, ← c.no-step2.ensures)
+    simp (eq-eqb _ _ c.if-at-ne0.false, ← c.operations_left-left.ensures.0, ← c.smaller-count.ensures.0, ← c.plain_behind-behind.ensures, eq-eqb _ _ c.if-behind-eq0.true, ← c.no_step-then-behind-eq0.ensures)
 
-returns_3 : tie.Need-returns-3
+returns_3 : tie.Need-returns
 unfolding plain_step
 returns_3 c =
-    let b = c.before.before in
-    let l = b.before.before in
-    simp (eq-eqb _ _ l.before.if1.false, ← l.operations-left.ensures.0, ← b.before.smaller.ensures.0, ← b.plain-behind.ensures, ne_eqb _ _ c.before.if2.false, ← c.step-to.ensures)
+    simp (eq-eqb _ _ c.if-at-ne0.false, ← c.operations_left-left.ensures.0, ← c.smaller-count.ensures.0, ← c.plain_behind-behind.ensures, ne_eqb _ _ c.if-behind-eq0.false, ← c.step_to.ensures)
 
 pub plain_step_spec : {M : Type 1} → statement M
 plain_step_spec =

@@ -5,15 +5,14 @@ use borrow.Author.Rules.{rules}
 use Rattle.play_fast_step.proofs.step_to_end.Statement.{statement}
 use Rattle.play_fast_step.proofs.step_to_end.Tie as tie
 
-returns : tie.Need-returns
+returns : tie.Need-returns-then-at-eq-OPENING
 unfolding step_ending
-returns c = simp (eq-eqb _ _ c.before.if1.true, ← c.no_step.ensures)
+returns c = simp (eq-eqb _ _ c.if-at-eq-OPENING.true, ← c.no_step.ensures)
 
-returns_2 : tie.Need-returns-2
+returns_2 : tie.Need-returns
 unfolding step_ending
 returns_2 c =
-    let to = c.before in
-    simp (ne_eqb _ _ to.before.if1.false, ← to.between-at.ensures, ← c.step_from.ensures)
+    simp (ne_eqb _ _ c.if-at-eq-OPENING.false, ← c.between_at-to.ensures, ← c.step_from.ensures)
 
 pub step_to_end_spec : {M : Type 1} → statement M
 step_to_end_spec = tie.close (tie.spec (search rules) returns (search rules) (search rules) returns_2)

@@ -5,23 +5,20 @@ use borrow.Author.Rules.{rules}
 use Rattle.play_segments_first.proofs.between_place.Statement.{statement}
 use Rattle.play_segments_first.proofs.between_place.Tie as tie
 
-returns : tie.Need-returns
+returns : tie.Need-returns-then-next-eq-OPENING
 unfolding between_place
 returns c =
-    let t = c.before.before in
-    simp (← t.before.before.next-part.ensures.0, eq-eqb _ _ t.if1.true) (rw c.before.opening-from.ensures at c.opening-place.ensures)
+    simp (← c.next_part-next.ensures.0, eq-eqb _ _ c.if-next-eq-OPENING.true) (rw c.opening_from-at.ensures at c.opening_place.ensures)
 
-returns_2 : tie.Need-returns-2
+returns_2 : tie.Need-returns-then-next-eq-FRAME
 unfolding between_place
 returns_2 c =
-    let t = c.before.before.before in
-    simp (← t.before.before.next-part.ensures.0, ne_eqb _ _ t.if1.false, eq-eqb _ _ c.before.if2.true, ← c.frame_at.ensures.0)
+    simp (← c.next_part-next.ensures.0, ne_eqb _ _ c.if-next-eq-OPENING.false, eq-eqb _ _ c.if-next-eq-FRAME.true, ← c.frame_at.ensures.0)
 
-returns_3 : tie.Need-returns-3
+returns_3 : tie.Need-returns
 unfolding between_place
 returns_3 c =
-    let t = c.before.before.before in
-    simp (← t.before.before.next-part.ensures.0, ne_eqb _ _ t.if1.false, ne_eqb _ _ c.before.if2.false, ← c.closing-from.ensures)
+    simp (← c.next_part-next.ensures.0, ne_eqb _ _ c.if-next-eq-OPENING.false, ne_eqb _ _ c.if-next-eq-FRAME.false, ← c.closing_from.ensures)
 
 pub between_place_spec : {M : Type 1} → statement M
 between_place_spec = tie.close (tie.spec (search rules) (search rules) (search rules) returns (search rules) returns_2 (search rules) returns_3)

@@ -4,7 +4,7 @@ use Rattle.play_segments_first.proofs.closing_from.Statement.{statement}
 use Rattle.play_segments_first.proofs.closing_from.Tie as tie
 
 returns : tie.Need-returns
-returns c = simp (← c.closing-left.ensures)
+returns c = simp (← c.closing_left.ensures)
 
 pub closing_from_spec : {M : Type 1} → statement M
 closing_from_spec = tie.close (tie.spec (search rules) returns)

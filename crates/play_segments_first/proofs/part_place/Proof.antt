@@ -3,17 +3,17 @@ use borrow.Author.Rules.{rules}
 use Rattle.play_segments_first.proofs.part_place.Statement.{statement}
 use Rattle.play_segments_first.proofs.part_place.Tie as tie
 
-returns : tie.Need-returns
-returns c = simp (← c.before.before.before.part_of.ensures, c.before.enum_told.given.1, ← c.between-place.ensures)
+returns : tie.Need-returns-in-Between
+returns c = simp (← c.part_of.ensures, c.in-Between.is, ← c.between_place.ensures)
 
-returns_2 : tie.Need-returns-2
-returns_2 c = simp (← c.before.before.before.before.operations-left.ensures.0, ← c.before.before.before.part_of.ensures, c.before.enum-told2.given.1, ← c.opening-place.ensures)
+returns_2 : tie.Need-returns-in-Opening
+returns_2 c = simp (← c.operations_left-left.ensures.0, ← c.part_of.ensures, c.in-Opening.is, ← c.opening_place.ensures)
 
-returns_3 : tie.Need-returns-3
-returns_3 c = simp (← c.before.before.before.before.operations-left.ensures.0, ← c.before.before.before.part_of.ensures, c.before.enum-told3.given.1, ← c.frame-place.ensures)
+returns_3 : tie.Need-returns-in-Frame
+returns_3 c = simp (← c.operations_left-left.ensures.0, ← c.part_of.ensures, c.in-Frame.is, ← c.frame_place.ensures)
 
-returns_4 : tie.Need-returns-4
-returns_4 c = simp (← c.before.before.before.part_of.ensures, c.before.enum-told4.given.1, ← c.closing-from.ensures)
+returns_4 : tie.Need-returns-in-Closing
+returns_4 c = simp (← c.part_of.ensures, c.in-Closing.is, ← c.closing_from.ensures)
 
 pub part_place_spec : {M : Type 1} → statement M
 part_place_spec =

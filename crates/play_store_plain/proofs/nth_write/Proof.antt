@@ -9,44 +9,41 @@ use Rattle.play_fast_plain.specs.Plain.{plain_size, plain_value, plain_write}
 use Rattle.play_store_plain.proofs.nth_write.Statement.{statement}
 use Rattle.play_store_plain.proofs.nth_write.Tie as tie
 
-mul_window : tie.Need-overflow-mul-window
-mul_window c = omega (arith, c.before.before.requires, ap (λ (k : ℕ). c.before.before.args.index * k) c.plain_size.ensures.0)
+mul_window : tie.Need-overflow_mul-index
+mul_window c = omega (arith, c.requires, ap (λ (k : ℕ). c.args.index * k) c.plain_size.ensures.0)
 
-add_window : tie.Need-overflow-add-window
-add_window c = omega (arith, c.before.before.requires, ap (λ (k : ℕ). c.before.before.args.index * k) c.plain_size.ensures.0)
+add_window : tie.Need-overflow_add-from
+add_window c = omega (arith, c.requires, ap (λ (k : ℕ). c.args.index * k) c.plain_size.ensures.0)
 
-window_requires : tie.Need-window-requires
-window_requires c κs = omega (arith, c.before.before.requires, ap (λ (k : ℕ). c.before.before.args.index * k) c.plain_size.ensures.0)
+window_requires : tie.Need-window-bytes-requires
+window_requires c κs = omega (arith, c.requires, ap (λ (k : ℕ). c.args.index * k) c.plain_size.ensures.0)
 
 -- the window's place, by the size of a plain WRITE
-placed : (w : tie.After-window)
-    → w.before.before.before.args.from + w.before.before.before.args.index * plain_size w.before.before.before.args.version
-    ≡ w.before.before.before.args.from + w.before.before.before.args.index * w.before.plain_size.result
+placed : (w : tie.After-window-bytes)
+    → w.args.from + w.args.index * plain_size w.args.version
+    ≡ w.args.from + w.args.index * w.plain_size.result
 placed w =
-    let a = w.before.before.before.args in
-    omega (arith, ap (λ (k : ℕ). a.index * k) w.before.plain_size.ensures.0)
+    let a = w.args in
+    omega (arith, ap (λ (k : ℕ). a.index * k) w.plain_size.ensures.0)
 
-returns : tie.Need-returns
+returns : tie.Need-returns-then-version-eq1
 unfolding plain_write plain_value decoded_item
 returns c =
     let w = c.before.before in
-    rw (placed w, eq-eqb _ _ c.before.if1.true, c.decode-record.ensures, w.window.ensures)
+    rw (placed w, eq-eqb _ _ c.if-version-eq1.true, c.decode_record-record.ensures, w.window-bytes.ensures)
 
-returns_2 : tie.Need-returns-2
+returns_2 : tie.Need-returns
 unfolding plain_write plain_value decoded_item decoded_operation
 returns_2 c =
-    let a = c.before in
-    let t = a.before in
-    let v = t.before in
-    let w = v.before.before in
+    let w = c.before.before.before.before.before in
     rw (
       placed w,
-      ne_eqb _ _ v.before.if1.false,
-      c.write-value-in.ensures,
-      a.address-in.ensures,
-      t.target-in.ensures,
-      v.address-width.ensures.0,
-      w.window.ensures,
+      ne_eqb _ _ c.if-version-eq1.false,
+      c.write_value_in.ensures,
+      c.address_in.ensures,
+      c.target_in.ensures,
+      c.address_width-width.ensures.0,
+      w.window-bytes.ensures,
     )
 
 pub nth_write_spec : {M : Type 1} → statement M

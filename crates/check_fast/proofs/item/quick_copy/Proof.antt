@@ -26,50 +26,41 @@ pooled file pools directory limits address pool source size =
     (cond (ltb (length file) (entry + entry_size)) false (pool_fits (part file entry 16) limits.kind address source size))
 
 -- the definition, over the numbers that were read
-read : (c : tie.After-out-of-range) → (
-    let length = c.before in
-    let pool = length.before.before in
-    let a = pool.before.before.before.before.args in
+read : (c : tie.After-out_of_range) → (
+    let a = c.args in
     copy_passes a.file.now a.pools a.directory a.limits (decoded_operation a.width a.bytes.now)
     ≡ cond c.out_of_range.result false
-    (pooled a.file.now a.pools a.directory a.limits pool.before.address-in.result pool.copy-pool-in.result length.before.copy-source-in.result
-    length.copy-length-in.result))
+    (pooled a.file.now a.pools a.directory a.limits c.address_in-address.result c.copy_pool_in-id.result c.copy_source_in-source.result
+    c.copy_length_in-length.result))
 unfolding copy_passes
 read c =
-    let length = c.before in
-    let source = length.before in
-    let pool = source.before in
-    let start = pool.before.before.before.before in
-    let width = start.args.width in
-    let bytes = start.args.bytes.now in
-    let copy = start.requires.2 in
+    let width = c.args.width in
+    let bytes = c.args.bytes.now in
+    let copy = c.requires.2 in
     rw (
       ← (copy_pool_lem width bytes copy),
       ← (copy_source_lem width bytes copy),
       ← (copy_length_lem width bytes copy),
-      ← pool.before.address-in.ensures,
-      ← pool.copy-pool-in.ensures,
-      ← source.copy-source-in.ensures,
-      ← length.copy-length-in.ensures,
+      ← c.address_in-address.ensures,
+      ← c.copy_pool_in-id.ensures,
+      ← c.copy_source_in-source.ensures,
+      ← c.copy_length_in-length.ensures,
       ← c.out_of_range.ensures,
     )
 
-returns_3 : tie.Need-returns-3
+returns_3 : tie.Need-returns-then-file-at
 returns_3 c =
-    let some = c.before in
-    let range = some.before.before in
-    rw (read range, some.before.if1.false, lt-leb _ _ some.if2.false, lt-ltb _ _ c.if3.true)
+    let range = c.before.before.before in
+    rw (read range, c.if-out_of_range.false, lt-leb _ _ c.if-pools-id.false, lt-ltb _ _ c.if-file-at.true)
 
-returns_4 : tie.Need-returns-4
+returns_4 : tie.Need-returns
 returns_4 c =
-    let whole = c.before.before in
-    let some = whole.before in
-    let range = some.before.before in
-    rw (read range, some.before.if1.false, lt-leb _ _ some.if2.false, le-ltb _ _ whole.if3.false, ← c.before.window.ensures, c.pool-fits.ensures)
+    let range = c.before.before.before.before.before in
+    rw (read range, c.if-out_of_range.false, lt-leb _ _ c.if-pools-id.false, le-ltb _ _ c.if-file-at.false, ← c.window.ensures, c.pool_fits.ensures)
 
 pub quick_copy_spec : {M : Type 1} → statement M
 quick_copy_spec =
     tie.close
-    (tie.spec (search rules) (search rules) (search rules) (search rules) (search rules) (search rules) (λ c. rw (read c.before, c.if1.true))
-    (λ c. rw (read c.before.before, c.before.if1.false, le-leb _ _ c.if2.true)) (search rules) (search rules) (search rules) (search rules) returns_3 (search rules) (search rules)
+    (tie.spec (search rules) (search rules) (search rules) (search rules) (search rules) (search rules) (λ c. rw (read c.before, c.if-out_of_range.true))
+    (λ c. rw (read c.before.before, c.if-out_of_range.false, le-leb _ _ c.if-pools-id.true)) (search rules) (search rules) (search rules) (search rules) returns_3 (search rules) (search rules)
     returns_4)

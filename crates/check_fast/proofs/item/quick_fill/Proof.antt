@@ -9,22 +9,19 @@ use Rattle.check_fast.proofs.item.quick_fill.Statement.{statement}
 use Rattle.check_fast.proofs.item.quick_fill.Tie as tie
 
 -- the length that was read is the reader's
-length : (c : tie.After-fill-length-in) → (decoded_operation c.before.before.before.args.width c.before.before.before.args.bytes.now).length ≡ c.fill-length-in.result
+length : (c : tie.After-fill_length_in-length) → (decoded_operation c.args.width c.args.bytes.now).length ≡ c.fill_length_in-length.result
 length c =
-    let start = c.before.before.before in
-    rw (← (fill_length_lem start.args.width start.args.bytes.now (omega (arith, start.requires.2))), c.fill-length-in.ensures)
+    rw (← (fill_length_lem c.args.width c.args.bytes.now (omega (arith, c.requires.2))), c.fill_length_in-length.ensures)
 
-returns : tie.Need-returns
+returns : tie.Need-returns-then-out_of_range
 unfolding fill_passes
 returns c =
-    let range = c.before in
-    rw (← range.before.before.address-in.ensures, length range.before, ← range.out_of_range.ensures, c.if1.true)
+    rw (← c.address_in-address.ensures, length c.before.before, ← c.out_of_range.ensures, c.if-out_of_range.true)
 
-returns_2 : tie.Need-returns-2
+returns_2 : tie.Need-returns
 unfolding fill_passes
 returns_2 c =
-    let range = c.before in
-    rw (← range.before.before.address-in.ensures, length range.before, ← range.out_of_range.ensures, c.if1.false)
+    rw (← c.address_in-address.ensures, length c.before.before, ← c.out_of_range.ensures, c.if-out_of_range.false)
 
 pub quick_fill_spec : {M : Type 1} → statement M
 quick_fill_spec = tie.close (tie.spec (search rules) (search rules) (search rules) returns returns_2)

@@ -6,4 +6,4 @@ use Rattle.check_fast.proofs.item.quick_write.Tie as tie
 
 pub quick_write_spec : {M : Type 1} → statement M
 unfolding write_passes
-quick_write_spec = tie.close (tie.spec (search rules) (search rules) (λ c. rw c.before.address-in.ensures))
+quick_write_spec = tie.close (tie.spec (search rules) (search rules) (λ c. rw c.address_in.ensures))

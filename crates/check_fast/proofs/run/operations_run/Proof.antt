@@ -12,11 +12,11 @@ use Rattle.check_fast.proofs.Runs.{run_step, run_stops, run_ends}
 use Rattle.check_fast.proofs.run.operations_run.Statement.{statement}
 use Rattle.check_fast.proofs.run.operations_run.Tie as tie
 
-abbrev invariant_loop : tie.invariant-loop
+abbrev invariant_loop : tie.invariant-loop-left
 invariant_loop file width pools directory table last count start at₀ left₀ si22₀ at left si22 =
     operations_from width file pools directory table last count start false ≡ operations_from width file pools directory table last left at si22
 
-abbrev decreases_loop : tie.decreases-loop
+abbrev decreases_loop : tie.decreases-loop-left
 decreases_loop file width pools directory table last count start at₀ left₀ si22₀ at left si22 = left
 
 -- the test of the arguments
@@ -26,61 +26,52 @@ test s at =
     operation_test a.width a.file.now a.pools a.directory a.table.now a.last at
 
 -- the test at the loop's place is what was found
-tested : (q : tie.After-quick-operation invariant_loop decreases_loop)
-    → let l = q.before.before.before.before in
-    test l.before.before l.loop.at ≡ q.quick-operation.result
+tested : (q : tie.After-quick_operation-quick invariant_loop decreases_loop)
+    → test q.before.before.before.before.before.before q.loop-left.at ≡ q.quick_operation-quick.result
 tested q =
-    let here = q.before.before in
-    rw (le-ltb _ _ here.if1.false, ← q.before.window.ensures) (sym q.quick-operation.ensures)
+    rw (le-ltb _ _ q.if-last-at.false, ← q.window-bytes.ensures) (sym q.quick_operation-quick.ensures)
 
-loop_holds : tie.Need-loop-init invariant_loop decreases_loop
+loop_holds : tie.Need-loop-left-init invariant_loop decreases_loop
 loop_holds c = refl
 
-returns : tie.Need-returns invariant_loop decreases_loop
+returns : tie.Need-returns-then-last-at invariant_loop decreases_loop
 returns c =
-    let l = c.before.before in
-    let s = l.before.before in
-    let none : (test s l.loop.at).passed ≡ false = rw (lt-ltb _ _ c.if1.true) in
-    rw (l.loop.invariant, run_stops (test s) (has_si22 s.args.file.now) l.loop.left l.loop.at l.loop.si22 c.before.loop-test.true none)
+    let s = c.before.before.before.before in
+    let none : (test s c.loop-left.at).passed ≡ false = rw (lt-ltb _ _ c.if-last-at.true) in
+    rw (c.loop-left.invariant, run_stops (test s) (has_si22 s.args.file.now) c.loop-left.left c.loop-left.at c.loop-left.si22 c.loop-left-test.true none)
 
-add_at : tie.Need-overflow-add-at invariant_loop decreases_loop
+add_at : tie.Need-overflow_add-at invariant_loop decreases_loop
 add_at c =
-    let q = c.before.before.before.before in
-    let a = q.before.before.before.before.before.before.args in
-    let most : q.quick-operation.result.size ≤ 16 = rw q.quick-operation.ensures (quick_small a.width a.file.now a.pools a.directory a.table.now _ (omega arith) (omega arith)) in
+    let a = c.args in
+    let most : c.quick_operation-quick.result.size ≤ 16 = rw c.quick_operation-quick.ensures (quick_small a.width a.file.now a.pools a.directory a.table.now _ (omega arith) (omega arith)) in
     omega arith
 
-loop_again : tie.Need-loop-preserved invariant_loop decreases_loop
+loop_again : tie.Need-loop-left-preserved invariant_loop decreases_loop
 loop_again c =
-    let t = c.before.before in
-    let q = t.before.before in
-    let w = q.before in
-    let l = w.before.before.before in
-    let s = l.before.before in
-    let some : (test s l.loop.at).passed ≡ true = ap (λ (t : Quick). t.passed) (tested q) ∙ t.before.if2.true in
+    let q = c.before.before.before.before in
+    let s = q.before.before.before.before.before.before in
+    let some : (test s q.loop-left.at).passed ≡ true = ap (λ (c : Quick). c.passed) (tested q) ∙ c.if-quick.true in
     rw (
-      l.loop.invariant,
-      run_step (test s) (has_si22 s.args.file.now) l.loop.left l.loop.at l.loop.si22 w.before.before.loop-test.true some,
-      ap (λ (t : Quick). t.size) (tested q),
-      ← w.window.ensures,
-      ← t.target-in.ensures,
-      c.before.either.ensures,
+      q.loop-left.invariant,
+      run_step (test s) (has_si22 s.args.file.now) q.loop-left.left q.loop-left.at q.loop-left.si22 q.loop-left-test.true some,
+      ap (λ (c : Quick). c.size) (tested q),
+      ← q.window-bytes.ensures,
+      ← c.target_in.ensures,
+      c.either-si22.ensures,
     )
 
-returns_2 : tie.Need-returns-2 invariant_loop decreases_loop
+returns_2 : tie.Need-returns-else-quick invariant_loop decreases_loop
 returns_2 c =
     let q = c.before in
-    let l = q.before.before.before.before in
-    let s = l.before.before in
-    let none : (test s l.loop.at).passed ≡ false = ap (λ (t : Quick). t.passed) (tested q) ∙ c.if2.false in
-    rw (l.loop.invariant, run_stops (test s) (has_si22 s.args.file.now) l.loop.left l.loop.at l.loop.si22 q.before.before.before.loop-test.true none)
+    let s = q.before.before.before.before.before.before in
+    let none : (test s q.loop-left.at).passed ≡ false = ap (λ (t : Quick). t.passed) (tested q) ∙ c.if-quick.false in
+    rw (q.loop-left.invariant, run_stops (test s) (has_si22 s.args.file.now) q.loop-left.left q.loop-left.at q.loop-left.si22 q.loop-left-test.true none)
 
-returns_3 : tie.Need-returns-3 invariant_loop decreases_loop
+returns_3 : tie.Need-returns invariant_loop decreases_loop
 returns_3 c =
-    let l = c.before in
-    let s = l.before.before in
-    let none : l.loop.left ≡ 0 = omega arith in
-    rw (l.loop.invariant, none, run_ends (test s) (has_si22 s.args.file.now) l.loop.at l.loop.si22)
+    let s = c.before.before.before in
+    let none : c.loop-left.left ≡ 0 = omega arith in
+    rw (c.loop-left.invariant, none, run_ends (test s) (has_si22 s.args.file.now) c.loop-left.at c.loop-left.si22)
 
 pub operations_run_spec : {M : Type 1} → statement M
 operations_run_spec =

@@ -13,10 +13,10 @@ use Rattle.check_fast.proofs.Runs.{run_step, run_stops, run_ends}
 use Rattle.check_fast.proofs.run.records_run.Statement.{statement}
 use Rattle.check_fast.proofs.run.records_run.Tie as tie
 
-abbrev invariant_loop : tie.invariant-loop
+abbrev invariant_loop : tie.invariant-loop-left
 invariant_loop file table last count start at₀ left₀ at left = records_run file table last count start ≡ records_run file table last left at
 
-abbrev decreases_loop : tie.decreases-loop
+abbrev decreases_loop : tie.decreases-loop-left
 decreases_loop file table last count start at₀ left₀ at left = left
 
 -- the test of the arguments
@@ -24,49 +24,41 @@ abbrev test : tie.Start invariant_loop decreases_loop → ℕ → Quick
 test s at = record_test s.args.file.now s.args.table.now s.args.last at
 
 -- the test at the loop's place is what was found
-tested : (q : tie.After-quick-record invariant_loop decreases_loop)
-    → let l = q.before.before.before.before.before in
-    test l.before.before l.loop.at ≡ record { passed = q.quick-record.result; size = q.before.decode-record.result.size }
+tested : (q : tie.After-quick_record invariant_loop decreases_loop)
+    → test q.before.before.before.before.before.before.before q.loop-left.at ≡ record { passed = q.quick_record.result; size = q.decode_record-item.result.size }
 tested q =
-    let item = q.before in
-    let here = item.before.before in
-    rw (le-ltb _ _ here.if1.false, ← item.before.window.ensures, ← item.decode-record.ensures, ← q.quick-record.ensures)
+    rw (le-ltb _ _ q.if-last-at.false, ← q.window.ensures, ← q.decode_record-item.ensures, ← q.quick_record.ensures)
 
-returns : tie.Need-returns invariant_loop decreases_loop
+returns : tie.Need-returns-then-last-at invariant_loop decreases_loop
 returns c =
-    let l = c.before.before in
-    let s = l.before.before in
-    let none : (test s l.loop.at).passed ≡ false = rw (lt-ltb _ _ c.if1.true) in
-    rw (l.loop.invariant, run_stops (test s) (λ place. false) l.loop.left l.loop.at false c.before.loop-test.true none)
+    let s = c.before.before.before.before in
+    let none : (test s c.loop-left.at).passed ≡ false = rw (lt-ltb _ _ c.if-last-at.true) in
+    rw (c.loop-left.invariant, run_stops (test s) (λ place. false) c.loop-left.left c.loop-left.at false c.loop-left-test.true none)
 
-add_at : tie.Need-overflow-add-at invariant_loop decreases_loop
+add_at : tie.Need-overflow_add-at invariant_loop decreases_loop
 unfolding decoded_record
 add_at c =
-    let item = c.before.before.before in
-    omega (arith, ap (λ (d : Decoded). d.size) item.decode-record.ensures)
+    omega (arith, ap (λ (d : Decoded). d.size) c.decode_record-item.ensures)
 
-loop_again : tie.Need-loop-preserved invariant_loop decreases_loop
+loop_again : tie.Need-loop-left-preserved invariant_loop decreases_loop
 loop_again c =
     let q = c.before.before in
-    let l = q.before.before.before.before.before in
-    let s = l.before.before in
-    let some : (test s l.loop.at).passed ≡ true = ap (λ (t : Quick). t.passed) (tested q) ∙ c.before.if2.true in
-    rw (l.loop.invariant, run_step (test s) (λ place. false) l.loop.left l.loop.at false q.before.before.before.before.loop-test.true some, ap (λ (t : Quick). t.size) (tested q))
+    let s = q.before.before.before.before.before.before.before in
+    let some : (test s q.loop-left.at).passed ≡ true = ap (λ (t : Quick). t.passed) (tested q) ∙ c.if-quick_record.true in
+    rw (q.loop-left.invariant, run_step (test s) (λ place. false) q.loop-left.left q.loop-left.at false q.loop-left-test.true some, ap (λ (t : Quick). t.size) (tested q))
 
-returns_2 : tie.Need-returns-2 invariant_loop decreases_loop
+returns_2 : tie.Need-returns-else-quick_record invariant_loop decreases_loop
 returns_2 c =
     let q = c.before in
-    let l = q.before.before.before.before.before in
-    let s = l.before.before in
-    let none : (test s l.loop.at).passed ≡ false = ap (λ (t : Quick). t.passed) (tested q) ∙ c.if2.false in
-    rw (l.loop.invariant, run_stops (test s) (λ place. false) l.loop.left l.loop.at false q.before.before.before.before.loop-test.true none)
+    let s = q.before.before.before.before.before.before.before in
+    let none : (test s q.loop-left.at).passed ≡ false = ap (λ (t : Quick). t.passed) (tested q) ∙ c.if-quick_record.false in
+    rw (q.loop-left.invariant, run_stops (test s) (λ place. false) q.loop-left.left q.loop-left.at false q.loop-left-test.true none)
 
-returns_3 : tie.Need-returns-3 invariant_loop decreases_loop
+returns_3 : tie.Need-returns invariant_loop decreases_loop
 returns_3 c =
-    let l = c.before in
-    let s = l.before.before in
-    let none : l.loop.left ≡ 0 = omega arith in
-    rw (l.loop.invariant, none, run_ends (test s) (λ place. false) l.loop.at false)
+    let s = c.before.before.before in
+    let none : c.loop-left.left ≡ 0 = omega arith in
+    rw (c.loop-left.invariant, none, run_ends (test s) (λ place. false) c.loop-left.at false)
 
 pub records_run_spec : {M : Type 1} → statement M
 records_run_spec = tie.close (tie.spec invariant_loop decreases_loop (λ c. refl) returns (search rules) (search rules) (search rules) add_at (search rules) (search rules) loop_again returns_2 returns_3)

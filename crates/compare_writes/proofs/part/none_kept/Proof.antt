@@ -13,39 +13,35 @@ use Rattle.compare_writes.proofs.Records.{counts}
 use Rattle.compare_writes.proofs.part.none_kept.Statement.{statement}
 use Rattle.compare_writes.proofs.part.none_kept.Tie as tie
 
-abbrev invariant_loop : tie.invariant-loop
+abbrev invariant_loop : tie.invariant-loop-left
 invariant_loop master start records all at₀ left₀ at left =
     (at + left * record_size ≤ 0x2000000500000000)
     × (same_writes (kept all (record_writes master records start)) [] ≡ same_writes (kept all (record_writes master left at)) [])
 
-abbrev decreases_loop : tie.decreases-loop
+abbrev decreases_loop : tie.decreases-loop-left
 decreases_loop master start records all at₀ left₀ at left = left
 
-loop_holds : tie.Need-loop-init invariant_loop decreases_loop
+loop_holds : tie.Need-loop-left-init invariant_loop decreases_loop
 loop_holds c = (omega arith, refl)
 
-returns : tie.Need-returns invariant_loop decreases_loop
+returns : tie.Need-returns-then-is_kept invariant_loop decreases_loop
 returns c =
-    let item = c.before.before in
-    let test = item.before.before in
-    let l = test.before.loop in
-    let a = test.before.before.before.args in
-    let here = counts a.master.now l.at _ _ item.before.item-bytes.ensures item.decode-record.ensures a.all c.before.is-kept.ensures c.if1.true in
-    rw (l.invariant.1, none_step a.all a.master.now l.left l.at test.loop-test.true, here)
+    let l = c.loop-left in
+    let a = c.args in
+    let here = counts a.master.now l.at _ _ c.item_bytes.ensures c.decode_record-item.ensures a.all c.is_kept.ensures c.if-is_kept.true in
+    rw (l.invariant.1, none_step a.all a.master.now l.left l.at c.loop-left-test.true, here)
 
-loop_again : tie.Need-loop-preserved invariant_loop decreases_loop
+loop_again : tie.Need-loop-left-preserved invariant_loop decreases_loop
 loop_again c =
-    let item = c.before.before in
-    let test = item.before.before in
-    let l = test.before.loop in
-    let a = test.before.before.before.args in
-    let here = counts a.master.now l.at _ _ item.before.item-bytes.ensures item.decode-record.ensures a.all c.before.is-kept.ensures c.if1.false in
-    (omega arith, rw (l.invariant.1, none_step a.all a.master.now l.left l.at test.loop-test.true, here))
+    let l = c.loop-left in
+    let a = c.args in
+    let here = counts a.master.now l.at _ _ c.item_bytes.ensures c.decode_record-item.ensures a.all c.is_kept.ensures c.if-is_kept.false in
+    (omega arith, rw (l.invariant.1, none_step a.all a.master.now l.left l.at c.loop-left-test.true, here))
 
-returns_2 : tie.Need-returns-2 invariant_loop decreases_loop
+returns_2 : tie.Need-returns invariant_loop decreases_loop
 returns_2 c =
-    let l = c.before.loop in
-    let a = c.before.before.before.args in
+    let l = c.loop-left in
+    let a = c.args in
     let none : l.left ≡ 0 = omega arith in
     rw (l.invariant.1, none, none_end a.all a.master.now l.at)
 

@@ -7,18 +7,16 @@ use Rattle.compare_writes.proofs.Match.{part_same, part_differs}
 use Rattle.compare_writes.proofs.part.same_opening.Statement.{statement}
 use Rattle.compare_writes.proofs.part.same_opening.Tie as tie
 
-returns : tie.Need-returns
+returns : tie.Need-returns-in-Same
 returns c =
-    let part = c.before.before in
-    let a = part.before.before.before.args in
-    let told = sym part.same-part.ensures ∙ c.enum_told.given.1 in
+    let a = c.args in
+    let told = sym c.same_part.ensures ∙ c.in-Same.is in
     sym (part_same false a.master.now a.other.now a.directory a.records master_header_size a.operations a.«other-start» _ told).0
 
-returns_2 : tie.Need-returns-2
+returns_2 : tie.Need-returns-in-Differs
 returns_2 c =
-    let part = c.before.before in
-    let a = part.before.before.before.args in
-    let told = sym part.same-part.ensures ∙ c.enum-told2.given.1 in
+    let a = c.args in
+    let told = sym c.same_part.ensures ∙ c.in-Differs.is in
     sym (part_differs false a.master.now a.other.now a.directory a.records master_header_size a.operations a.«other-start» told)
 
 pub same_opening_spec : {M : Type 1} → statement M

@@ -3,8 +3,8 @@ use borrow.Author.Rules.{rules}
 use Rattle.compare_writes.proofs.run.is_kept.Statement.{statement}
 use Rattle.compare_writes.proofs.run.is_kept.Tie as tie
 
-returns_2 : tie.Need-returns-2
-returns_2 c = simp c.if1.false
+returns_2 : tie.Need-returns
+returns_2 c = simp c.if-all.false
 
 pub is_kept_spec : {M : Type 1} → statement M
 is_kept_spec = tie.close (tie.spec (λ c. search rules) returns_2)

@@ -6,90 +6,78 @@ use mathlib.Core.Path.{◌≡◌, refl, sym, ◌∙◌}
 use Rattle.base_format.specs.Size.{record_size}
 use Rattle.compare_segment.specs.Segments.{source_step}
 use Rattle.compare_writes.specs.Match.{matched, matched_segment}
-use Rattle.compare_writes.proofs.Match.{matched_end, matched_short, matched_next, matched_differs, matched_skip}
+use Rattle.compare_writes.proofs.Match.{matched_end, matched_short, matched-next, matched-differs, matched-skip}
 use Rattle.compare_writes.proofs.Records.{counts, equals}
 use Rattle.compare_writes.proofs.run.same_segment.Statement.{statement}
 use Rattle.compare_writes.proofs.run.same_segment.Tie as tie
 
-abbrev invariant_loop : tie.invariant-loop
+abbrev invariant_loop : tie.invariant-loop-count
 invariant_loop master start records all other segment at₀ left₀ count₀ address₀ source₀ step at left count address source =
     (at + left * record_size ≤ 0x1000000500000000)
     × (address + count ≤ 0x200000000)
     × (source + count ≤ 0x2000000100000000)
     × (matched_segment all master other records start segment ≡ matched all master other left at segment.target address source (source_step segment.copied) count)
 
-abbrev decreases_loop : tie.decreases-loop
+abbrev decreases_loop : tie.decreases-loop-count
 decreases_loop master start records all other segment at₀ left₀ count₀ address₀ source₀ step at left count address source =
     left
 
-loop_holds : tie.Need-loop-init invariant_loop decreases_loop
+loop_holds : tie.Need-loop-count-init invariant_loop decreases_loop
 loop_holds c = (omega arith, omega arith, omega arith, refl)
 
-returns : tie.Need-returns invariant_loop decreases_loop
+returns : tie.Need-returns-then-left-eq0 invariant_loop decreases_loop
 returns c =
-    let l = c.before.before.loop in
-    let a = c.before.before.before.before.before.before.before.args in
+    let l = c.loop-count in
+    let a = c.args in
     let g = a.segment in
-    rw (l.invariant.3, c.if1.true)
-    (sym (matched_short a.all a.master.now a.other.now l.at g.target l.address l.source (source_step g.copied) l.count c.before.loop-test.true))
+    rw (l.invariant.3, c.if-left-eq0.true)
+    (sym (matched_short a.all a.master.now a.other.now l.at g.target l.address l.source (source_step g.copied) l.count c.loop-count-test.true))
 
-add_source : tie.Need-overflow-add-source invariant_loop decreases_loop
-add_source c = omega (arith, c.before.before.before.before.before.before.before.before.before.before.step_of.ensures.1)
+add_source : tie.Need-overflow_add-source invariant_loop decreases_loop
+add_source c = omega (arith, c.step_of-step.ensures.1)
 
-loop_again : tie.Need-loop-preserved invariant_loop decreases_loop
+loop_again : tie.Need-loop-count-preserved-then-same_record invariant_loop decreases_loop
 loop_again c =
-    let value = c.before.before in
-    let k = value.before.before in
-    let item = k.before in
-    let test = item.before.before.before in
-    let l = test.before.loop in
-    let step = test.before.before in
-    let a = step.before.before.before.before.args in
+    let l = c.loop-count in
+    let a = c.args in
     let g = a.segment in
-    let here = item.before.item-bytes.ensures in
-    let is = item.decode-record.ensures in
-    let kept = counts a.master.now l.at _ _ here is a.all k.is-kept.ensures value.before.if2.true in
-    let same = equals a.master.now l.at _ _ here is a.other.now g.target l.address l.source value.byte_at.ensures c.before.same-record.ensures c.if3.true in
-    let next = matched_next a.all a.master.now a.other.now l.left l.at g.target l.address l.source (source_step g.copied) l.count (omega arith) test.loop-test.true in (
+    let here = c.item_bytes.ensures in
+    let is = c.decode_record-item.ensures in
+    let kept = counts a.master.now l.at _ _ here is a.all c.is_kept.ensures c.if-is_kept.true in
+    let same = equals a.master.now l.at _ _ here is a.other.now g.target l.address l.source c.byte_at-value.ensures c.same_record.ensures c.if-same_record.true in
+    let next = matched-next a.all a.master.now a.other.now l.left l.at g.target l.address l.source (source_step g.copied) l.count (omega arith) c.loop-count-test.true in (
       omega arith,
       omega arith,
-      omega (arith, step.step_of.ensures.1),
-      rw step.step_of.ensures.0 (l.invariant.3 ∙ next kept same),
+      omega (arith, c.step_of-step.ensures.1),
+      rw c.step_of-step.ensures.0 (l.invariant.3 ∙ next kept same),
     )
 
-returns_2 : tie.Need-returns-2 invariant_loop decreases_loop
+returns_2 : tie.Need-returns-else-same_record invariant_loop decreases_loop
 returns_2 c =
-    let value = c.before.before in
-    let k = value.before.before in
-    let item = k.before in
-    let test = item.before.before.before in
-    let l = test.before.loop in
-    let a = test.before.before.before.before.before.before.args in
+    let l = c.loop-count in
+    let a = c.args in
     let g = a.segment in
-    let here = item.before.item-bytes.ensures in
-    let is = item.decode-record.ensures in
-    let kept = counts a.master.now l.at _ _ here is a.all k.is-kept.ensures value.before.if2.true in
-    let same = equals a.master.now l.at _ _ here is a.other.now g.target l.address l.source value.byte_at.ensures c.before.same-record.ensures c.if3.false in
-    let some = test.loop-test.true in
-    let differs = matched_differs a.all a.master.now a.other.now l.left l.at g.target l.address l.source (source_step g.copied) l.count (omega arith) some in
+    let here = c.item_bytes.ensures in
+    let is = c.decode_record-item.ensures in
+    let kept = counts a.master.now l.at _ _ here is a.all c.is_kept.ensures c.if-is_kept.true in
+    let same = equals a.master.now l.at _ _ here is a.other.now g.target l.address l.source c.byte_at-value.ensures c.same_record.ensures c.if-same_record.false in
+    let some = c.loop-count-test.true in
+    let differs = matched-differs a.all a.master.now a.other.now l.left l.at g.target l.address l.source (source_step g.copied) l.count (omega arith) some in
     sym (l.invariant.3 ∙ differs kept same)
 
-loop_again_2 : tie.Need-loop-preserved-2 invariant_loop decreases_loop
+loop_again_2 : tie.Need-loop-count-preserved invariant_loop decreases_loop
 loop_again_2 c =
-    let k = c.before in
-    let item = k.before in
-    let test = item.before.before.before in
-    let l = test.before.loop in
-    let a = test.before.before.before.before.before.before.args in
+    let l = c.loop-count in
+    let a = c.args in
     let g = a.segment in
-    let kept = counts a.master.now l.at _ _ item.before.item-bytes.ensures item.decode-record.ensures a.all k.is-kept.ensures c.if2.false in
-    let skip = matched_skip a.all a.master.now a.other.now l.left l.at g.target l.address l.source (source_step g.copied) l.count (omega arith) test.loop-test.true in
+    let kept = counts a.master.now l.at _ _ c.item_bytes.ensures c.decode_record-item.ensures a.all c.is_kept.ensures c.if-is_kept.false in
+    let skip = matched-skip a.all a.master.now a.other.now l.left l.at g.target l.address l.source (source_step g.copied) l.count (omega arith) c.loop-count-test.true in
     (omega arith, omega arith, omega arith, l.invariant.3 ∙ skip kept)
 
-returns_3 : tie.Need-returns-3 invariant_loop decreases_loop
+returns_3 : tie.Need-returns invariant_loop decreases_loop
 returns_3 c =
-    let l = c.before.loop in
-    let a = c.before.before.before.before.before.before.args in
+    let l = c.loop-count in
+    let a = c.args in
     let g = a.segment in
     let none : l.count ≡ 0 = omega arith in
     rw (l.invariant.3, none) (sym (matched_end a.all a.master.now a.other.now l.left l.at g.target l.address l.source (source_step g.copied)))

@@ -10,38 +10,34 @@ use Rattle.play_item_span.proofs.decode.last_span.Statement.{statement}
 use Rattle.play_item_span.proofs.decode.last_span.Tie as tie
 
 -- what is read is the operation at the place
-read_is : (d : tie.After-decode-operation) → d.decode-operation.result ≡ decoded_at d.before.before.before.args.width d.before.before.before.args.file.now d.before.before.before.args.at
-read_is d = d.decode-operation.ensures.0 ∙ ap (decoded_operation d.before.before.before.args.width) d.before.item-bytes.ensures
+read_is : (d : tie.After-decode_operation-item) → d.decode_operation-item.result ≡ decoded_at d.args.width d.args.file.now d.args.at
+read_is d = d.decode_operation-item.ensures.0 ∙ ap (decoded_operation d.args.width) d.item_bytes.ensures
 
-returns : tie.Need-returns
+returns : tie.Need-returns-then-item-gt2
 returns c =
     let d = c.before.before.before in
-    let a = d.before.before.before.args in
-    rw c.no_span.ensures (sym (no_opcode a.file.now a.directory a.at a.width (rw (← (read_is d)) c.before.if1.true)))
+    let a = d.args in
+    rw c.no_span.ensures (sym (no_opcode a.file.now a.directory a.at a.width (rw (← (read_is d)) c.if-item-gt2.true)))
 
-returns_2 : tie.Need-returns-2
+returns_2 : tie.Need-returns-then-passes
 returns_2 c =
-    let p = c.before.before in
-    let d = p.before.before.before in
-    let a = d.before.before.before.args in
-    let past = ltb-true _ _ (sym p.passes.ensures ∙ c.before.if2.true) in
-    rw c.no-span2.ensures (sym (cut_off a.file.now a.directory a.at a.width (rw (← (read_is d)) p.before.if1.false) (rw (← (read_is d)) past)))
+    let d = c.before.before.before.before.before in
+    let a = d.args in
+    let past = ltb-true _ _ (sym c.passes.ensures ∙ c.if-passes.true) in
+    rw c.no_span-then-passes.ensures (sym (cut_off a.file.now a.directory a.at a.width (rw (← (read_is d)) c.if-item-gt2.false) (rw (← (read_is d)) past)))
 
-add_span_of : tie.Need-overflow-add-span-of
+add_span_of : tie.Need-overflow_add-at
 add_span_of c =
-    let p = c.before.before in
-    let a = p.before.before.before.before.before.before.args in
-    omega (arith, inside _ (length a.file.now) a.at _ p.passes.ensures c.before.if2.false)
+    let a = c.args in
+    omega (arith, inside _ (length a.file.now) a.at _ c.passes.ensures c.if-passes.false)
 
-returns_3 : tie.Need-returns-3
+returns_3 : tie.Need-returns
 returns_3 c =
-    let o = c.before in
-    let p = o.before.before in
-    let d = p.before.before.before in
-    let a = d.before.before.before.args in
-    let within = inside _ (length a.file.now) a.at _ p.passes.ensures o.before.if2.false in
-    rw (c.Span-of.ensures, o.operation-of.ensures, read_is d)
-    (sym (found a.file.now a.directory a.at a.width (rw (← (read_is d)) p.before.if1.false) (omega arith) (rw (← (read_is d)) within)))
+    let d = c.before.before.before.before.before.before in
+    let a = d.args in
+    let within = inside _ (length a.file.now) a.at _ c.passes.ensures c.if-passes.false in
+    rw (c.span_of.ensures, c.operation_of.ensures, read_is d)
+    (sym (found a.file.now a.directory a.at a.width (rw (← (read_is d)) c.if-item-gt2.false) (omega arith) (rw (← (read_is d)) within)))
 
 pub last_span_spec : {M : Type 1} → statement M
 last_span_spec = tie.close (tie.spec (search rules) (search rules) (search rules) returns (search rules) (search rules) returns_2 (search rules) add_span_of (search rules) returns_3)

@@ -8,30 +8,27 @@ use Rattle.play_item_span.proofs.decode.quick_span.Statement.{statement}
 use Rattle.play_item_span.proofs.decode.quick_span.Tie as tie
 
 -- the opcode that is read is the operation's
-opcode_is : (o : tie.After-opcode-in) → (decoded_at o.before.before.before.args.width o.before.before.before.args.file.now o.before.before.before.args.at).opcode ≡ o.opcode-in.result
+opcode_is : (o : tie.After-opcode_in-opcode) → (decoded_at o.args.width o.args.file.now o.args.at).opcode ≡ o.opcode_in-opcode.result
 unfolding decoded_operation
-opcode_is o = sym (o.opcode-in.ensures ∙ rw o.before.window.ensures)
+opcode_is o = sym (o.opcode_in-opcode.ensures ∙ rw o.window-bytes.ensures)
 
-returns : tie.Need-returns
+returns : tie.Need-returns-then-opcode-lt2
 returns c =
     let o = c.before.before in
-    let w = o.before in
-    let a = w.before.before.args in
-    rw (c.value-part.ensures, w.window.ensures) (value_read a.file.now a.directory a.at a.width (omega arith, omega arith) (omega arith) (omega (arith, opcode_is o, c.before.if1.true)))
+    let a = o.args in
+    rw (c.value_part.ensures, o.window-bytes.ensures) (value_read a.file.now a.directory a.at a.width (omega arith, omega arith) (omega arith) (omega (arith, opcode_is o, c.if-opcode-lt2.true)))
 
-returns_2 : tie.Need-returns-2
+returns_2 : tie.Need-returns-then-opcode-eq2
 returns_2 c =
     let o = c.before.before.before in
-    let w = o.before in
-    let a = w.before.before.args in
-    rw (c.copy-part.ensures, w.window.ensures) (copy_read a.file.now a.directory a.at a.width (omega arith, omega arith) (omega arith) (opcode_is o ∙ c.before.if2.true))
+    let a = o.args in
+    rw (c.copy_part.ensures, o.window-bytes.ensures) (copy_read a.file.now a.directory a.at a.width (omega arith, omega arith) (omega arith) (opcode_is o ∙ c.if-opcode-eq2.true))
 
-returns_3 : tie.Need-returns-3
+returns_3 : tie.Need-returns
 returns_3 c =
-    let e = c.before.before in
-    let o = e.before in
-    let a = o.before.before.before.args in
-    rw c.no_span.ensures (sym (no_opcode a.file.now a.directory a.at a.width (omega (arith, opcode_is o, e.if1.false, c.before.if2.false))))
+    let o = c.before.before.before in
+    let a = o.args in
+    rw c.no_span.ensures (sym (no_opcode a.file.now a.directory a.at a.width (omega (arith, opcode_is o, c.if-opcode-lt2.false, c.if-opcode-eq2.false))))
 
 pub quick_span_spec : {M : Type 1} → statement M
 quick_span_spec = tie.close (tie.spec (search rules) (search rules) (search rules) returns (search rules) returns_2 (search rules) returns_3)

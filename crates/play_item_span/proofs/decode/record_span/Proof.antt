@@ -7,25 +7,20 @@ use Rattle.play_item_span.proofs.Spans.{inside}
 use Rattle.play_item_span.proofs.decode.record_span.Statement.{statement}
 use Rattle.play_item_span.proofs.decode.record_span.Tie as tie
 
-returns : tie.Need-returns
-returns c = simp (← c.before.before.passes.ensures, c.before.if1.true, ← c.no_span.ensures)
+returns : tie.Need-returns-then-passes
+returns c = simp (← c.passes.ensures, c.if-passes.true, ← c.no_span.ensures)
 
-add_value_span : tie.Need-overflow-add-value-span
+add_value_span : tie.Need-overflow_add-at
 unfolding decoded_record
 add_value_span c =
-    let d = c.before in
-    let p = d.before.before.before in
-    let a = p.before.before.args in
-    let whole = inside _ (length a.file.now) a.at 5 p.passes.ensures d.before.before.if1.false in
-    rw d.decode-record.ensures (omega (arith, whole))
+    let a = c.args in
+    let whole = inside _ (length a.file.now) a.at 5 c.passes.ensures c.if-passes.false in
+    rw c.decode_record-record.ensures (omega (arith, whole))
 
-returns_2 : tie.Need-returns-2
+returns_2 : tie.Need-returns
 unfolding decoded_record operation_of
 returns_2 c =
-    let d = c.before.before in
-    let b = d.before in
-    let p = b.before.before in
-    rw (← p.passes.ensures, b.before.if1.false, c.value-span.ensures, d.decode-record.ensures, b.item-bytes.ensures)
+    rw (← c.passes.ensures, c.if-passes.false, c.value_span.ensures, c.decode_record-record.ensures, c.item_bytes.ensures)
 
 pub record_span_spec : {M : Type 1} → statement M
 record_span_spec = tie.close (tie.spec (search rules) (search rules) returns (search rules) (search rules) add_value_span (search rules) returns_2)

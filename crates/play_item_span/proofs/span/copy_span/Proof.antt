@@ -4,7 +4,7 @@ use Rattle.play_item_span.proofs.span.copy_span.Statement.{statement}
 use Rattle.play_item_span.proofs.span.copy_span.Tie as tie
 
 returns : tie.Need-returns
-returns c = simp (← c.pool-offset.ensures)
+returns c = simp (← c.pool_offset-offset.ensures)
 
 pub copy_span_spec : {M : Type 1} → statement M
 copy_span_spec = tie.close (tie.spec (search rules) returns)

@@ -4,4 +4,4 @@ use Rattle.play_segments.proofs.place.next_cursor.Statement.{statement}
 use Rattle.play_segments.proofs.place.next_cursor.Tie as tie
 
 pub next_cursor_spec : {M : Type 1} → statement M
-next_cursor_spec = tie.close (tie.spec (λ c. simp (eq-eqb _ _ c.if1.true)) (λ c. simp (ne_eqb _ _ c.if1.false)))
+next_cursor_spec = tie.close (tie.spec (λ c. simp (eq-eqb _ _ c.if-place-eq1.true)) (λ c. simp (ne_eqb _ _ c.if-place-eq1.false)))

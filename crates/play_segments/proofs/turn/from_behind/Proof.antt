@@ -3,11 +3,11 @@ use borrow.Author.Rules.{rules}
 use Rattle.play_segments.proofs.turn.from_behind.Statement.{statement}
 use Rattle.play_segments.proofs.turn.from_behind.Tie as tie
 
-returns : tie.Need-returns
-returns c = simp c.before.before.if1.true
+returns : tie.Need-returns-then-span
+returns c = simp c.if-span.true
 
-returns_2 : tie.Need-returns-2
-returns_2 c = simp c.if1.false
+returns_2 : tie.Need-returns
+returns_2 c = simp c.if-span.false
 
 pub from_behind_spec : {M : Type 1} → statement M
 from_behind_spec = tie.close (tie.spec (search rules) (search rules) (search rules) (search rules) returns returns_2)

@@ -4,7 +4,7 @@ use Rattle.play_segments.proofs.turn.halted.Statement.{statement}
 use Rattle.play_segments.proofs.turn.halted.Tie as tie
 
 returns : tie.Need-returns
-returns c = simp (← c.before.before.one_value.ensures, ← c.before.stopped.ensures, ← c.less.ensures)
+returns c = simp (← c.one_value-segment.ensures, ← c.stopped-end.ensures, ← c.less.ensures)
 
 pub halted_spec : {M : Type 1} → statement M
 halted_spec = tie.close (tie.spec (search rules) (search rules) (search rules) returns)

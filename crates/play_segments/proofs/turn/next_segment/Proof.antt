@@ -8,15 +8,14 @@ use borrow.Author.Rules.{rules}
 use Rattle.play_segments.proofs.turn.next_segment.Statement.{statement}
 use Rattle.play_segments.proofs.turn.next_segment.Tie as tie
 
-returns_2 : tie.Need-returns-2
+returns_2 : tie.Need-returns
 unfolding turn
 returns_2 c =
-    let e = c.before.before in
-    let a = e.before.before.args in
-    c.span-turn.ensures
-    ∙ span_turns a.file.now a.state.header.directory_offset a.place c.before.read-span.result (decoded a.file.now a.state.header.version a.place.cursor) c.before.read-span.ensures
-    ∙ sym (cond_false a.place.closing _ _ e.if1.false)
+    let a = c.args in
+    c.span_turn.ensures
+    ∙ span_turns a.file.now a.state.header.directory_offset a.place c.read_span-span.result (decoded a.file.now a.state.header.version a.place.cursor) c.read_span-span.ensures
+    ∙ sym (cond_false a.place.closing _ _ c.if-place.false)
 
 pub next_segment_spec : {M : Type 1} → statement M
 unfolding turn
-next_segment_spec = tie.close (tie.spec (search rules) (λ c. simp (c.before.if1.true, ← c.closing-turn.ensures)) (search rules) (search rules) returns_2)
+next_segment_spec = tie.close (tie.spec (search rules) (λ c. simp (c.if-place.true, ← c.closing_turn.ensures)) (search rules) (search rules) returns_2)
