@@ -144,7 +144,7 @@ module _ (file : List ℕ) where
 pub played_length : (memory : List ℕ) (writes : List WriteRecord) → length (played memory writes) ≡ length memory
 unfolding played
 played_length memory [] = refl
-played_length memory (w ∷ writes) = played_length _ writes ∙ go (eqb w.target 2)
+played_length memory (w ∷ writes) = played_length (cond (eqb w.target 2) (set memory w.address w.value) memory) writes ∙ go (eqb w.target 2)
   where
     go : (b : Bool) → length (cond b (set memory w.address w.value) memory) ≡ length memory
     go true = length-set memory w.address w.value

@@ -4,13 +4,12 @@ use borrow.Author.Tests.{lt-ltb, le-ltb}
 use Rattle.play_plan_taken.proofs.closing.plan_closing.Statement.{statement}
 use Rattle.play_plan_taken.proofs.closing.plan_closing.Tie as tie
 
-returns : tie.Need-returns
-returns c = rw (← c.before.before.closing-count.ensures, lt-ltb _ _ c.before.if1.true) c.refused-part.ensures
+returns : tie.Need-returns-then-total-made
+returns c = rw (← c.closing_count-total.ensures, lt-ltb _ _ c.if-total-made.true) c.refused_part.ensures
 
-returns_2 : tie.Need-returns-2
+returns_2 : tie.Need-returns
 returns_2 c =
-    let t = c.before.before in
-    rw (← t.before.closing-count.ensures, le-ltb _ _ t.if1.false, ← c.before.smaller.ensures.0, c.Closing-at.ensures)
+    rw (← c.closing_count-total.ensures, le-ltb _ _ c.if-total-made.false, ← c.smaller-count.ensures.0, c.closing_at-after.ensures)
 
 pub plan_closing_spec : {M : Type 1} → statement M
 plan_closing_spec =
