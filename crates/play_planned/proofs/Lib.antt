@@ -1,4 +1,3 @@
--- What is lent to a vsync call, and how it is handed on; the answer of a plan.
-pub mod Lent
+-- What a plan answers, and what a call reports.
 pub mod Calls
 pub mod Reported
