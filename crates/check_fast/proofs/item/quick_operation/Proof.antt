@@ -92,5 +92,5 @@ unfolding quick_operation decoded_operation
 quick_operation_spec =
     tie.close
     (tie.spec (search rules) (search rules) (search rules) (λ c. rw (← c.target_in-target.ensures, le-leb _ _ c.if-target-ge-TARGETS.true)) (search rules) (search rules) (search rules) returns_2
-    (search rules) (λ c κs. asked c.before.before.before 1 c.if3.true) (search rules) returns_3 (λ c κs. asked c.before.before.before.before 2 c.if4.true) (search rules)
+    (search rules) (λ c κs. asked c.before.before.before 1 c.if-opcode-eq1.true) (search rules) returns_3 (λ c κs. asked c.before.before.before.before 2 c.if-opcode-eq2.true) (search rules)
     returns_4 returns_5)

@@ -6,25 +6,25 @@ use Rattle.play_plan.proofs.Begins.{goes_between, goes_opening, goes_frame, goes
 use Rattle.play_plan.proofs.call.plan_part.Statement.{statement}
 use Rattle.play_plan.proofs.call.plan_part.Tie as tie
 
-returns : tie.Need-returns
+returns : tie.Need-returns-in-Between
 returns c =
-    let a = c.before.before.before.before.before.args in
-    goes_between a.state a.file.now a.room a.progress _ (part_of a.progress.part) (sym c.before.before.before.part_of.ensures ∙ c.before.enum_told.given.1) c.plan-between.ensures
+    let a = c.args in
+    goes_between a.state a.file.now a.room a.progress _ (part_of a.progress.part) (sym c.part_of.ensures ∙ c.in-Between.is) c.plan_between.ensures
 
-returns_2 : tie.Need-returns-2
+returns_2 : tie.Need-returns-in-Opening
 returns_2 c =
-    let a = c.before.before.before.before.before.args in
-    goes_opening a.state a.file.now a.room a.progress _ (part_of a.progress.part) (sym c.before.before.before.part_of.ensures ∙ c.before.enum-told2.given.1) c.plan-opening.ensures
+    let a = c.args in
+    goes_opening a.state a.file.now a.room a.progress _ (part_of a.progress.part) (sym c.part_of.ensures ∙ c.in-Opening.is) c.plan_opening.ensures
 
-returns_3 : tie.Need-returns-3
+returns_3 : tie.Need-returns-in-Frame
 returns_3 c =
-    let a = c.before.before.before.before.before.args in
-    goes_frame a.state a.file.now a.room a.progress _ (part_of a.progress.part) (sym c.before.before.before.part_of.ensures ∙ c.before.enum-told3.given.1) c.plan-frame.ensures.0
+    let a = c.args in
+    goes_frame a.state a.file.now a.room a.progress _ (part_of a.progress.part) (sym c.part_of.ensures ∙ c.in-Frame.is) c.plan_frame.ensures.0
 
-returns_4 : tie.Need-returns-4
+returns_4 : tie.Need-returns-in-Closing
 returns_4 c =
-    let a = c.before.before.before.before.before.args in
-    goes_closing a.state a.file.now a.room a.progress _ (part_of a.progress.part) (sym c.before.before.before.part_of.ensures ∙ c.before.enum-told4.given.1) c.plan-closing.ensures
+    let a = c.args in
+    goes_closing a.state a.file.now a.room a.progress _ (part_of a.progress.part) (sym c.part_of.ensures ∙ c.in-Closing.is) c.plan_closing.ensures
 
 pub plan_part_spec : {M : Type 1} → statement M
 plan_part_spec =

@@ -3,11 +3,11 @@ use native.Mathlib.Omega.{arith}
 use Rattle.play_plan.proofs.call.told.Statement.{statement}
 use Rattle.play_plan.proofs.call.told.Tie as tie
 
-returns : tie.Need-returns
-returns c = rw c.before.if1.true c.refused-plan.ensures
+returns : tie.Need-returns-then-taken
+returns c = rw c.if-taken.true c.refused_plan.ensures
 
-returns_2 : tie.Need-returns-2
-returns_2 c = rw (c.before.before.if1.false, c.moved.ensures)
+returns_2 : tie.Need-returns
+returns_2 c = rw (c.if-taken.false, c.moved-next.ensures)
 
 pub told_spec : {M : Type 1} → statement M
 told_spec = tie.close (tie.spec (λ c. omega arith) returns (λ c. omega arith) returns_2)

@@ -8,10 +8,9 @@ use Rattle.play_plan.proofs.frame.plan_frame.Tie as tie
 
 returns : tie.Need-returns
 returns c =
-    let planned = c.before.before in
-    let a = planned.before.before.args in (
-      rw (c.ended.ensures.0, c.before.taken-by.ensures) (told_frame a.state a.file.now a.room a.progress planned.plan-operations.result planned.plan-operations.ensures.0),
-      omega (arith, c.ended.ensures.1, ap (λ (t : Taken). t.count) c.before.taken-by.ensures),
+    let a = c.args in (
+      rw (c.ended.ensures.0, c.taken_by.ensures) (told_frame a.state a.file.now a.room a.progress c.plan_operations-plan.result c.plan_operations-plan.ensures.0),
+      omega (arith, c.ended.ensures.1, ap (λ (t : Taken). t.count) c.taken_by.ensures),
     )
 
 pub plan_frame_spec : {M : Type 1} → statement M
