@@ -12,80 +12,71 @@ use Rattle.join_renumber.proofs.Walk.{items_length, frames_none, frames_still, f
 use Rattle.join_renumber.proofs.renumber_frames.Statement.{statement}
 use Rattle.join_renumber.proofs.renumber_frames.Tie as tie
 
-abbrev invariant_loop : tie.invariant-loop
+abbrev invariant_loop : tie.invariant-loop-left
 invariant_loop file count start before buffer₀ shift limit at₀ left₀ buffer at left =
     (frames_renumbered before shift file count start buffer₀ ≡ frames_renumbered before shift file left at buffer) × (length buffer ≡ length buffer₀)
 
-abbrev decreases_loop : tie.decreases-loop
+abbrev decreases_loop : tie.decreases-loop-left
 decreases_loop file count start before buffer₀ shift limit at₀ left₀ buffer at left = left
 
-returns : tie.Need-returns invariant_loop decreases_loop
+returns : tie.Need-returns-then-left-eq0 invariant_loop decreases_loop
 returns c =
-    let p = c.before in
-    let l = p.before.before.loop in
-    let a = p.before.before.before.before.before.before.args in
-    let next = p.pass-empty.result in
+    let l = c.loop-left in
+    let a = c.args in
+    let next = c.pass_empty-next.result in
     sym (
     l.invariant.0
-    ∙ frames_passed a.before a.shift a.file.now l.left l.at next.left next.at l.buffer p.pass-empty.ensures
-    ∙ ap (λ (n : ℕ). frames_renumbered a.before a.shift a.file.now n next.at l.buffer) c.if1.true
+    ∙ frames_passed a.before a.shift a.file.now l.left l.at next.left next.at l.buffer c.pass_empty-next.ensures
+    ∙ ap (λ (n : ℕ). frames_renumbered a.before a.shift a.file.now n next.at l.buffer) c.if-left-eq0.true
     ∙ frames_none a.before a.shift a.file.now next.at l.buffer
     )
 
-returns_2 : tie.Need-returns-2 invariant_loop decreases_loop
+returns_2 : tie.Need-returns-then-limit-at invariant_loop decreases_loop
 returns_2 c =
-    let p = c.before.before in
-    let l = p.before.before.loop in
-    let f = p.before.before.before in
-    let a = f.before.before.before.args in
-    let next = p.pass-empty.result in
-    let past : walk_limit a.file.now ≤ next.at = omega (arith, c.if2.true, f.smaller.ensures.0) in
+    let l = c.loop-left in
+    let a = c.args in
+    let next = c.pass_empty-next.result in
+    let past : walk_limit a.file.now ≤ next.at = omega (arith, c.if-limit-at.true, c.smaller-limit.ensures.0) in
     sym (
     l.invariant.0
-    ∙ frames_passed a.before a.shift a.file.now l.left l.at next.left next.at l.buffer p.pass-empty.ensures
+    ∙ frames_passed a.before a.shift a.file.now l.left l.at next.left next.at l.buffer c.pass_empty-next.ensures
     ∙ frames_still a.before a.shift a.file.now next.left next.at l.buffer past
     )
 
-add_first : tie.Need-overflow-add-first invariant_loop decreases_loop
+add_first : tie.Need-overflow_add-first invariant_loop decreases_loop
 add_first c =
-    let t = c.before in
-    omega (arith, t.if2.false, t.before.before.before.before.before.smaller.ensures.2)
+    omega (arith, c.if-limit-at.false, c.smaller-limit.ensures.2)
 
-loop_less : tie.Need-loop-smaller invariant_loop decreases_loop
+loop_less : tie.Need-loop-left-smaller invariant_loop decreases_loop
 loop_less c =
-    let p = c.before.before.before.before.before.before.before in
-    omega (arith, p.pass-empty.ensures.most, c.before.before.before.before.before.before.if1.false)
+    omega (arith, c.pass_empty-next.ensures.most, c.if-left-eq0.false)
 
-loop_again : tie.Need-loop-preserved invariant_loop decreases_loop
+loop_again : tie.Need-loop-left-preserved invariant_loop decreases_loop
 loop_again c =
-    let r = c.before.before.before.before in
-    let t = r.before in
-    let p = t.before.before in
-    let l = p.before.before.loop in
-    let f = p.before.before.before in
-    let a = f.before.before.before.args in
+    let l = c.loop-left in
+    let a = c.args in
     let file = a.file.now in
-    let next = p.pass-empty.result in
-    let less : next.at < walk_limit file = omega (arith, t.if2.false, f.smaller.ensures.0) in
-    let some : 0 < next.left = omega (arith, t.before.if1.false) in
+    let next = c.pass_empty-next.result in
+    let less : next.at < walk_limit file = omega (arith, c.if-limit-at.false, c.smaller-limit.ensures.0) in
+    let some : 0 < next.left = omega (arith, c.if-left-eq0.false) in
     let first = next.at + 2 in
-    let count = r.read-u16.ensures in
-    let did = c.before.before.renumber-items.ensures in
+    let count = c.read_u16-items.ensures in
+    let did = c.renumber_items-at.ensures in
     let puts = did.0 ∙ ap (λ (n : ℕ). items_renumbered a.before a.shift file n first l.buffer) count in
     let ends = did.1 ∙ ap (λ (n : ℕ). items_walked 3 file n first) count in (
       l.invariant.0
-          ∙ frames_passed a.before a.shift file l.left l.at next.left next.at l.buffer p.pass-empty.ensures
+          ∙ frames_passed a.before a.shift file l.left l.at next.left next.at l.buffer c.pass_empty-next.ensures
           ∙ frames_step a.before a.shift file next.left next.at l.buffer some less
           ∙ ap₂ (λ (n : ℕ) (b : List ℕ). frames_renumbered a.before a.shift file (next.left - 1) n b) (sym ends) (sym puts),
       ap length puts ∙ items_length a.before a.shift file (be 2 file next.at) first l.buffer ∙ l.invariant.1,
     )
 
-returns_3 : tie.Need-returns-3 invariant_loop decreases_loop
+returns_3 : tie.Need-returns invariant_loop decreases_loop
 returns_3 c =
-    let l = c.before.loop in
-    let a = c.before.before.before.before.before.args in
+    let l = c.loop-left in
+    let a = c.args in
     let file = a.file.now in
-    let none : l.left ≡ 0 = omega (arith, c.loop-test.false) in
+    let none : l.left ≡ 0 = omega (arith, c.loop-left-test.false) in
     sym (l.invariant.0 ∙ ap (λ (n : ℕ). frames_renumbered a.before a.shift file n l.at l.buffer) none ∙ frames_none a.before a.shift file l.at l.buffer)
 
 pub renumber_frames_spec : {M : Type 1} → statement M

@@ -8,20 +8,17 @@ use Rattle.join_renumber.proofs.Walk.{copy_renumbered, other_stays}
 use Rattle.join_renumber.proofs.renumber_item.Statement.{statement}
 use Rattle.join_renumber.proofs.renumber_item.Tie as tie
 
-returns : tie.Need-returns
+returns : tie.Need-returns-then-opcode-eq2
 returns c =
-    let t = c.before.before.before.before in
-    let s = t.before.before.before.before in
-    let a = s.args in
-    c.before.before.put-low-u16.ensures
-    ∙ ap (λ (n : ℕ). put (bytes_of 2 (a.before + n)) (a.at + 5 + a.shift) a.buffer.now) t.read-u16.ensures
-    ∙ copy_renumbered a.before a.shift a.file.now a.at a.buffer.now (sym s.requires.3 ∙ t.before.if1.true)
+    let a = c.args in
+    c.put_low_u16.ensures
+    ∙ ap (λ (n : ℕ). put (bytes_of 2 (a.before + n)) (a.at + 5 + a.shift) a.buffer.now) c.read_u16-pool.ensures
+    ∙ copy_renumbered a.before a.shift a.file.now a.at a.buffer.now (sym c.requires.3 ∙ c.if-opcode-eq2.true)
 
-returns_2 : tie.Need-returns-2
+returns_2 : tie.Need-returns-else-opcode-eq2
 returns_2 c =
-    let s = c.before.before.before in
-    let a = s.args in
-    other_stays a.before a.shift a.file.now a.at a.buffer.now (λ e. c.if1.false (s.requires.3 ∙ e))
+    let a = c.args in
+    other_stays a.before a.shift a.file.now a.at a.buffer.now (λ e. c.if-opcode-eq2.false (c.requires.3 ∙ e))
 
 pub renumber_item_spec : {M : Type 1} → statement M
 renumber_item_spec =

@@ -12,38 +12,32 @@ use Rattle.join_renumber.proofs.Walk.{item_length, items_none, items_still, item
 use Rattle.join_renumber.proofs.renumber_items.Statement.{statement}
 use Rattle.join_renumber.proofs.renumber_items.Tie as tie
 
-abbrev invariant_loop : tie.invariant-loop
+abbrev invariant_loop : tie.invariant-loop-left
 invariant_loop file count start before buffer₀ shift limit at₀ left₀ buffer at left =
     (items_renumbered before shift file count start buffer₀ ≡ items_renumbered before shift file left at buffer)
     × (items_walked 3 file count start ≡ items_walked 3 file left at)
     × (length buffer ≡ length buffer₀)
 
-abbrev decreases_loop : tie.decreases-loop
+abbrev decreases_loop : tie.decreases-loop-left
 decreases_loop file count start before buffer₀ shift limit at₀ left₀ buffer at left = left
 
-renumber_item_requires : tie.Need-renumber-item-requires invariant_loop decreases_loop
+renumber_item_requires : tie.Need-renumber_item-requires invariant_loop decreases_loop
 renumber_item_requires c κs =
-    let t = c.before.before in
-    let f = t.before.before.before in
-    let s = f.before.before.before in
-    (omega (arith, t.if1.true, f.smaller.ensures.2), s.requires.0, s.requires.1, refl)
+    (omega (arith, c.if-at-limit.true, c.smaller-limit.ensures.2), c.requires.0, c.requires.1, refl)
 
-add_at : tie.Need-overflow-add-at invariant_loop decreases_loop
+add_at : tie.Need-overflow_add-at invariant_loop decreases_loop
 add_at c =
-    let t = c.before.before.before.before.before.before in
-    omega (arith, c.item-size.ensures.1, t.if1.true, t.before.before.before.smaller.ensures.2)
+    omega (arith, c.item_size-at.ensures.1, c.if-at-limit.true, c.smaller-limit.ensures.2)
 
-loop_again : tie.Need-loop-preserved invariant_loop decreases_loop
+loop_again : tie.Need-loop-left-preserved invariant_loop decreases_loop
 loop_again c =
-    let t = c.before.before.before.before.before.before in
-    let l = t.before.before.loop in
-    let f = t.before.before.before in
-    let a = f.before.before.before.args in
+    let l = c.loop-left in
+    let a = c.args in
     let file = a.file.now in
-    let some = t.before.loop-test.true in
-    let less : l.at < walk_limit file = omega (arith, t.if1.true, f.smaller.ensures.0) in
-    let size = sym c.item-size.ensures.0 in
-    let puts = c.before.before.before.renumber-item.ensures in (
+    let some = c.loop-left-test.true in
+    let less : l.at < walk_limit file = omega (arith, c.if-at-limit.true, c.smaller-limit.ensures.0) in
+    let size = sym c.item_size-at.ensures.0 in
+    let puts = c.renumber_item.ensures in (
       l.invariant.0
           ∙ items_step a.before a.shift file l.left l.at l.buffer some less
           ∙ ap₂ (λ (n : ℕ) (b : List ℕ). items_renumbered a.before a.shift file (l.left - 1) (l.at + n) b) size (sym puts),
@@ -51,22 +45,21 @@ loop_again c =
       ap length puts ∙ item_length a.before a.shift file l.at l.buffer ∙ l.invariant.2,
     )
 
-returns : tie.Need-returns invariant_loop decreases_loop
+returns : tie.Need-returns-else-at-limit invariant_loop decreases_loop
 returns c =
-    let l = c.before.before.loop in
-    let f = c.before.before.before in
-    let a = f.before.before.before.args in
-    let past : walk_limit a.file.now ≤ l.at = omega (arith, c.if1.false, f.smaller.ensures.0) in (
+    let l = c.loop-left in
+    let a = c.args in
+    let past : walk_limit a.file.now ≤ l.at = omega (arith, c.if-at-limit.false, c.smaller-limit.ensures.0) in (
       sym (l.invariant.0 ∙ items_still a.before a.shift a.file.now l.left l.at l.buffer past),
       sym (l.invariant.1 ∙ Walked.items_still 3 a.file.now l.left l.at past),
     )
 
-returns_2 : tie.Need-returns-2 invariant_loop decreases_loop
+returns_2 : tie.Need-returns invariant_loop decreases_loop
 returns_2 c =
-    let l = c.before.loop in
-    let a = c.before.before.before.before.before.args in
+    let l = c.loop-left in
+    let a = c.args in
     let file = a.file.now in
-    let none : l.left ≡ 0 = omega (arith, c.loop-test.false) in (
+    let none : l.left ≡ 0 = omega (arith, c.loop-left-test.false) in (
       sym (l.invariant.0 ∙ ap (λ (n : ℕ). items_renumbered a.before a.shift file n l.at l.buffer) none ∙ items_none a.before a.shift file l.at l.buffer),
       sym (l.invariant.1 ∙ ap (λ (n : ℕ). items_walked 3 file n l.at) none ∙ Walked.items_none 3 file l.at),
     )

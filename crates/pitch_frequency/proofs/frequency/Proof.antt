@@ -13,21 +13,19 @@ use Rattle.pitch_frequency.proofs.Range.{by_range}
 use Rattle.pitch_frequency.proofs.frequency.Statement.{statement}
 use Rattle.pitch_frequency.proofs.frequency.Tie as tie
 
-tested : (c : tie.After-out-of-range) → out_of_range c.before.args.note c.before.args.semitones ≡ c.out_of_range.result
-tested c = sym (c.out_of_range.ensures ∙ ap (out_of_range c.before.args.note) (to_z-of_z w8 _ c.before.ranges.semitones))
+tested : (c : tie.After-out_of_range) → out_of_range c.args.note c.args.semitones ≡ c.out_of_range.result
+tested c = sym (c.out_of_range.ensures ∙ ap (out_of_range c.args.note) (to_z-of_z w8 _ c.ranges.semitones))
 
-returns : tie.Need-returns
-returns c = sym (by_range _ _ true (tested c.before ∙ c.if1.true))
+returns : tie.Need-returns-then-out_of_range
+returns c = sym (by_range _ _ true (tested c.before ∙ c.if-out_of_range.true))
 
-place_of_requires : tie.Need-place-of-requires
-place_of_requires c κs = sym c.before.out_of_range.ensures ∙ c.if1.false
+place_of_requires : tie.Need-place_of-requires
+place_of_requires c κs = sym c.out_of_range.ensures ∙ c.if-out_of_range.false
 
-returns_2 : tie.Need-returns-2
+returns_2 : tie.Need-returns
 returns_2 c =
-    let choice = c.before.before in
-    let start = choice.before.before in
-    let sum = c.before.place_of.ensures.0 ∙ ap (λ (z : ℤ). pos start.args.note +ℤ z) (to_z-of_z w8 _ start.ranges.semitones) in
-    ap ok (c.pitch-at.ensures ∙ ap pitch_of sum) ∙ sym (by_range _ _ false (tested choice.before ∙ choice.if1.false))
+    let sum = c.place_of.ensures.0 ∙ ap (λ (z : ℤ). pos c.args.note +ℤ z) (to_z-of_z w8 _ c.ranges.semitones) in
+    ap ok (c.pitch_at.ensures ∙ ap pitch_of sum) ∙ sym (by_range _ _ false (tested c.before.before.before ∙ c.if-out_of_range.false))
 
 pub frequency_spec : {M : Type 1} → statement M
 frequency_spec = tie.close (tie.spec (search rules) returns place_of_requires (search rules) returns_2)

@@ -24,7 +24,7 @@ summed : (c : tie.Start) → to_z w8 (of_z w8 c.args.semitones) +ℤ pos 48 ≡ 
 unfolding steps
 summed c = ap (λ (z : ℤ). z +ℤ pos 48) (to_z-of_z w8 c.args.semitones c.ranges.semitones) ∙ (range c).shifted.is
 
-add_result : tie.Need-overflow-add-result
+add_result : tie.Need-overflow_add-result
 unfolding steps
 add_result c =
     let most = (range c).shifted.most in
@@ -34,13 +34,13 @@ add_result c =
 read_back : (c : tie.Start) → to_z w8 (of_z w8 (to_z w8 (of_z w8 c.args.semitones) +ℤ pos 48)) ≡ pos (steps c)
 read_back c = to_z-of_z w8 _ (add_result c) ∙ summed c
 
-cast_result : tie.Need-overflow-cast-result
+cast_result : tie.Need-overflow_cast-result-2
 unfolding steps
 cast_result c =
     let most = (range c).shifted.most in
     subst (λ (z : ℤ). T (non_neg z) × Fits w64 (nat_abs z)) (sym (read_back c)) (tt, record { fits = omega arith })
 
-add_result_2 : tie.Need-overflow-add-result-2
+add_result_2 : tie.Need-overflow_add-result-2
 unfolding steps
 add_result_2 c =
     let most = (range c).shifted.most in

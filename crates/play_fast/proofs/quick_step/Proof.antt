@@ -8,28 +8,26 @@ use Rattle.play_fast.proofs.quick_step.Statement.{statement}
 use Rattle.play_fast.proofs.quick_step.Tie as tie
 
 -- the part's limit stands in the file
-bounds : (c : tie.After-playing-part) → c.playing-part.result.limit ≤ length c.before.before.args.file.now
+bounds : (c : tie.After-playing_part-playing) → c.playing_part-playing.result.limit ≤ length c.args.file.now
 bounds c =
-    let a = c.before.before.args in
-    (playing_part_bounds a.file.now a.header a.progress c.playing-part.result a.cards.count c.playing-part.ensures).0
+    let a = c.args in
+    (playing_part_bounds a.file.now a.header a.progress c.playing_part-playing.result a.cards.count c.playing_part-playing.ensures).0
 
-plain_step_requires : tie.Need-plain-step-requires
+plain_step_requires : tie.Need-plain_step-plain-requires
 plain_step_requires c κs = bounds c
 
-returns : tie.Need-returns
+returns : tie.Need-returns-then-plain
 unfolding step_of
 returns c =
-    let p = c.before in
-    rw (← p.before.playing-part.ensures, ← p.plain_step.ensures, c.if1.true)
+    rw (← c.playing_part-playing.ensures, ← c.plain_step-plain.ensures, c.if-plain.true)
 
-fill_step_requires : tie.Need-fill-step-requires
+fill_step_requires : tie.Need-fill_step-requires
 fill_step_requires c κs = bounds c.before.before
 
-returns_2 : tie.Need-returns-2
+returns_2 : tie.Need-returns
 unfolding step_of
 returns_2 c =
-    let p = c.before.before in
-    rw (← p.before.playing-part.ensures, ← p.plain_step.ensures, c.before.if1.false) c.fill_step.ensures
+    rw (← c.playing_part-playing.ensures, ← c.plain_step-plain.ensures, c.if-plain.false) c.fill_step.ensures
 
 pub quick_step_spec : {M : Type 1} → statement M
 quick_step_spec = tie.close (tie.spec (search rules) plain_step_requires returns fill_step_requires returns_2)

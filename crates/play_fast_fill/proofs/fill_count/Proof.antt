@@ -11,40 +11,33 @@ use Rattle.play_fast_fill.specs.Fills.{fill_count}
 use Rattle.play_fast_fill.proofs.fill_count.Statement.{statement}
 use Rattle.play_fast_fill.proofs.fill_count.Tie as tie
 
-returns_2 : tie.Need-returns-2
+returns_2 : tie.Need-returns-then-target-gt15
 unfolding fill_count decoded_operation
 returns_2 c =
-    let t = c.before.before in
-    simp (← t.before.opcode-in.ensures, ← t.target-in.ensures, le-ltb _ _ c.before.if1.false, lt-ltb _ _ c.if2.true)
+    simp (← c.opcode_in-opcode.ensures, ← c.target_in-target.ensures, le-ltb _ _ c.if-opcode-gt1.false, lt-ltb _ _ c.if-target-gt15.true)
 
 -- the definition where the first two tests let it pass, over the numbers that were read
-read : (c : tie.After-out-of-bulk) → (
-    let n = c.before.before.before in
-    let o = n.before.before.before.before.before in
-    let s = o.before.before.args in
-    fill_count (decoded_operation s.width s.bytes.now) s.starts.now s.ends.now ≡ cond c.out-of-bulk.result 0 n.fill-length-in.result)
+read : (c : tie.After-out_of_bulk) → (
+    let s = c.args in
+    fill_count (decoded_operation s.width s.bytes.now) s.starts.now s.ends.now ≡ cond c.out_of_bulk.result 0 c.fill_length_in-count.result)
 unfolding fill_count decoded_operation
 read c =
-    let n = c.before.before.before in
-    let a = n.before in
-    let e = a.before in
-    let t = e.before.before in
-    let s = t.before.before.before.args in
-    let low : byte s.bytes.now 0 ≤ 1 = rw (← t.before.opcode-in.ensures) e.before.if1.false in
+    let s = c.args in
+    let low : byte s.bytes.now 0 ≤ 1 = rw (← c.opcode_in-opcode.ensures) c.if-opcode-gt1.false in
     rw (
-      ← (n.fill-length-in.ensures ∙ fill_length_lem s.width s.bytes.now low),
-      ← a.address-in.ensures,
-      ← t.target-in.ensures,
-      ← t.before.opcode-in.ensures,
-      le-ltb _ _ e.before.if1.false,
-      le-ltb _ _ e.if2.false,
-      ← c.out-of-bulk.ensures,
+      ← (c.fill_length_in-count.ensures ∙ fill_length_lem s.width s.bytes.now low),
+      ← c.address_in-address.ensures,
+      ← c.target_in-target.ensures,
+      ← c.opcode_in-opcode.ensures,
+      le-ltb _ _ c.if-opcode-gt1.false,
+      le-ltb _ _ c.if-target-gt15.false,
+      ← c.out_of_bulk.ensures,
     )
 
 pub fill_count_spec : {M : Type 1} → statement M
 unfolding fill_count decoded_operation
 fill_count_spec =
     tie.close
-    (tie.spec (λ c. omega arith) (λ c. omega arith) (λ c. simp (← c.before.before.opcode-in.ensures, lt-ltb _ _ c.if1.true)) returns_2 (λ c. omega arith) (λ c. omega arith) (λ c. omega arith)
-    (λ c. omega arith) (λ c. omega arith) (λ c. omega arith) (λ c. omega arith) (λ c. omega arith) (λ c. omega arith) (λ c. omega arith) (λ c. omega arith) (λ c. rw (read c.before, c.if3.true))
-    (λ c. rw (read c.before, c.if3.false)))
+    (tie.spec (λ c. omega arith) (λ c. omega arith) (λ c. simp (← c.opcode_in-opcode.ensures, lt-ltb _ _ c.if-opcode-gt1.true)) returns_2 (λ c. omega arith) (λ c. omega arith) (λ c. omega arith)
+    (λ c. omega arith) (λ c. omega arith) (λ c. omega arith) (λ c. omega arith) (λ c. omega arith) (λ c. omega arith) (λ c. omega arith) (λ c. omega arith) (λ c. rw (read c.before, c.if-out_of_bulk.true))
+    (λ c. rw (read c.before, c.if-out_of_bulk.false)))

@@ -14,103 +14,93 @@ use Rattle.play_fast_fill.proofs.Steps.{fills_end, fills_full, fills_none, fills
 use Rattle.play_fast_fill.proofs.fills_from.Statement.{statement}
 use Rattle.play_fast_fill.proofs.fills_from.Tie as tie
 
-abbrev invariant_loop : tie.invariant-loop
+abbrev invariant_loop : tie.invariant-loop-others
 invariant_loop file width starts ends limit left room cursor writes at₀ others₀ free₀ done₀ at others free done =
     fills_from file width starts ends limit left room cursor writes ≡ fills_from file width starts ends limit others free at done
 
-abbrev decreases_loop : tie.decreases-loop
+abbrev decreases_loop : tie.decreases-loop-others
 decreases_loop file width starts ends limit left room cursor writes at₀ others₀ free₀ done₀ at others free done =
     others
 
 -- the count of the operation at the loop's place
-abbrev count_on : tie.At-loop invariant_loop decreases_loop → ℕ
+abbrev count_on : tie.At-loop-others invariant_loop decreases_loop → ℕ
 count_on l =
-    let a = l.before.before.args in
-    count_at a.file.now a.width a.starts.now a.ends.now a.limit l.loop.at
+    let a = l.args in
+    count_at a.file.now a.width a.starts.now a.ends.now a.limit l.loop-others.at
 
 -- 16 bytes stand there before the limit
-whole : (e : tie.Else2 invariant_loop decreases_loop) → e.before.before.before.before.loop.at + 16 ≤ e.before.before.before.before.before.before.args.limit
-whole e = ltb-false _ _ (sym e.before.passes.ensures ∙ e.if2.false)
+whole : (e : tie.Else-passes invariant_loop decreases_loop) → e.loop-others.at + 16 ≤ e.args.limit
+whole e = ltb-false _ _ (sym e.passes.ensures ∙ e.if-passes.false)
 
 -- what the table says is that count
-said : (q : tie.After-fill-count invariant_loop decreases_loop) → count_on q.before.before.before.before.before.before ≡ q.fill-count.result
+said : (q : tie.After-fill_count-count invariant_loop decreases_loop) → count_on q.before.before.before.before.before.before ≡ q.fill_count-count.result
 said q =
-    let w = q.before in
-    let e = w.before in
-    let l = e.before.before.before.before in
-    let a = l.before.before.args in
-    rw (count_within a.file.now a.width a.starts.now a.ends.now a.limit l.loop.at (whole e), ← w.window.ensures, q.fill-count.ensures)
+    let e = q.before.before in
+    let a = e.args in
+    rw (count_within a.file.now a.width a.starts.now a.ends.now a.limit e.loop-others.at (whole e), ← q.window-bytes.ensures, q.fill_count-count.ensures)
 
 -- an operation that is taken has a count above the writes that are made
-taken : (e : tie.Else3 invariant_loop decreases_loop) → leb (count_on e.before.before.before.before.before.before.before) e.before.before.before.before.before.before.before.loop.done ≡ false
-taken e = rw (said e.before, lt-leb _ _ e.if3.false)
+taken : (e : tie.Else-count-done invariant_loop decreases_loop) → leb (count_on e.before.before.before.before.before.before.before) e.loop-others.done ≡ false
+taken e = rw (said e.before, lt-leb _ _ e.if-count-done.false)
 
-loop_holds : tie.Need-loop-init invariant_loop decreases_loop
+loop_holds : tie.Need-loop-others-init invariant_loop decreases_loop
 loop_holds c = refl
 
-returns : tie.Need-returns invariant_loop decreases_loop
+returns : tie.Need-returns-then-free-eq0 invariant_loop decreases_loop
 returns c =
-    let l = c.before.before.before in
-    let a = l.before.before.args in
-    rw (c.stopped-at.ensures, l.loop.invariant, c.before.if1.true, fills_full a.file.now a.width a.starts.now a.ends.now a.limit l.loop.others)
+    let a = c.args in
+    rw (c.stopped_at.ensures, c.loop-others.invariant, c.if-free-eq0.true, fills_full a.file.now a.width a.starts.now a.ends.now a.limit c.loop-others.others)
 
-returns_2 : tie.Need-returns-2 invariant_loop decreases_loop
+returns_2 : tie.Need-returns-then-passes invariant_loop decreases_loop
 returns_2 c =
-    let p = c.before.before in
-    let l = p.before.before.before in
-    let a = l.before.before.args in
-    let past = count_past a.file.now a.width a.starts.now a.ends.now a.limit l.loop.at (sym p.passes.ensures ∙ c.before.if2.true) in
-    let none : leb (count_on l) l.loop.done ≡ true = rw past (le-leb 0 l.loop.done (omega arith)) in
-    rw (l.loop.invariant, fills_none a.file.now a.width a.starts.now a.ends.now a.limit l.loop.others l.loop.free l.loop.at l.loop.done (omega arith) (omega arith) none) c.stopped-at2.ensures
+    let l = c.before.before.before.before.before in
+    let a = l.args in
+    let past = count_past a.file.now a.width a.starts.now a.ends.now a.limit l.loop-others.at (sym c.passes.ensures ∙ c.if-passes.true) in
+    let none : leb (count_on l) l.loop-others.done ≡ true = rw past (le-leb 0 l.loop-others.done (omega arith)) in
+    rw (l.loop-others.invariant, fills_none a.file.now a.width a.starts.now a.ends.now a.limit l.loop-others.others l.loop-others.free l.loop-others.at l.loop-others.done (omega arith) (omega arith) none) c.stopped_at-then-passes.ensures
 
-window_requires : tie.Need-window-requires invariant_loop decreases_loop
+window_requires : tie.Need-window-bytes-requires invariant_loop decreases_loop
 window_requires c κs = omega (arith, whole c)
 
-returns_3 : tie.Need-returns-3 invariant_loop decreases_loop
+returns_3 : tie.Need-returns-then-count-done invariant_loop decreases_loop
 returns_3 c =
     let q = c.before.before in
     let l = q.before.before.before.before.before.before in
-    let a = l.before.before.args in
-    let none : leb (count_on l) l.loop.done ≡ true = rw (said q, le-leb _ _ c.before.if3.true) in
-    rw (l.loop.invariant, fills_none a.file.now a.width a.starts.now a.ends.now a.limit l.loop.others l.loop.free l.loop.at l.loop.done (omega arith) (omega arith) none) c.stopped-at3.ensures
+    let a = l.args in
+    let none : leb (count_on l) l.loop-others.done ≡ true = rw (said q, le-leb _ _ c.if-count-done.true) in
+    rw (l.loop-others.invariant, fills_none a.file.now a.width a.starts.now a.ends.now a.limit l.loop-others.others l.loop-others.free l.loop-others.at l.loop-others.done (omega arith) (omega arith) none) c.stopped_at-then-count-done.ensures
 
-returns_4 : tie.Need-returns-4 invariant_loop decreases_loop
+returns_4 : tie.Need-returns-then-free-rest invariant_loop decreases_loop
 returns_4 c =
     let e = c.before.before in
-    let l = e.before.before.before.before.before.before.before in
-    let a = l.before.before.args in
-    let step = fills_step a.file.now a.width a.starts.now a.ends.now a.limit l.loop.others l.loop.free l.loop.at l.loop.done (omega arith) (omega arith) (taken e) in
-    rw (l.loop.invariant, step, said e.before, lt-ltb _ _ c.before.if4.true) c.stopped-at4.ensures
+    let a = e.args in
+    let step = fills_step a.file.now a.width a.starts.now a.ends.now a.limit e.loop-others.others e.loop-others.free e.loop-others.at e.loop-others.done (omega arith) (omega arith) (taken e) in
+    rw (e.loop-others.invariant, step, said e.before, lt-ltb _ _ c.if-free-rest.true) c.stopped_at-then-free-rest.ensures
 
-add_at : tie.Need-overflow-add-at invariant_loop decreases_loop
-add_at c = omega (arith, whole c.before.before.before.before.before, c.fill-size-in.ensures.1)
+add_at : tie.Need-overflow_add-at invariant_loop decreases_loop
+add_at c = omega (arith, whole c.before.before.before.before.before, c.fill_size_in-at.ensures.1)
 
 -- an operation that is taken has the opcode 0 or 1
-low : (e : tie.Else3 invariant_loop decreases_loop) → byte e.before.before.window.result.now 0 ≤ 1
+low : (e : tie.Else-count-done invariant_loop decreases_loop) → byte e.window-bytes.result.now 0 ≤ 1
 unfolding decoded_operation
 low e =
-    let q = e.before in
-    let a = q.before.before.before.before.before.before.before.before.args in
-    let some : q.fill-count.result ≡ 0 → ⊥ = λ none. omega (arith, none, e.if3.false) in
-    (counted (decoded_operation a.width q.before.window.result.now) a.starts.now a.ends.now (rw (← q.fill-count.ensures) (ne_eqb _ _ some))).opcode
+    let a = e.args in
+    let some : e.fill_count-count.result ≡ 0 → ⊥ = λ none. omega (arith, none, e.if-count-done.false) in
+    (counted (decoded_operation a.width e.window-bytes.result.now) a.starts.now a.ends.now (rw (← e.fill_count-count.ensures) (ne_eqb _ _ some))).opcode
 
-loop_again : tie.Need-loop-preserved invariant_loop decreases_loop
+loop_again : tie.Need-loop-others-preserved invariant_loop decreases_loop
 loop_again c =
-    let f = c.before in
-    let e = f.before in
-    let w = e.before.before in
-    let l = w.before.before.before.before.before in
-    let a = l.before.before.args in
-    let step = fills_step a.file.now a.width a.starts.now a.ends.now a.limit l.loop.others l.loop.free l.loop.at l.loop.done (omega arith) (omega arith) (taken e) in
-    let sized = c.fill-size-in.ensures.0 ∙ fill_size_lem a.width w.window.result.now (low e) (omega arith) (omega arith) in
-    rw (l.loop.invariant, step, said e.before, le-ltb _ _ f.if4.false, sized, w.window.ensures)
+    let e = c.before.before in
+    let a = e.args in
+    let step = fills_step a.file.now a.width a.starts.now a.ends.now a.limit e.loop-others.others e.loop-others.free e.loop-others.at e.loop-others.done (omega arith) (omega arith) (taken e) in
+    let sized = c.fill_size_in-at.ensures.0 ∙ fill_size_lem a.width e.window-bytes.result.now (low e) (omega arith) (omega arith) in
+    rw (e.loop-others.invariant, step, said e.before, le-ltb _ _ c.if-free-rest.false, sized, e.window-bytes.ensures)
 
-returns_5 : tie.Need-returns-5 invariant_loop decreases_loop
+returns_5 : tie.Need-returns invariant_loop decreases_loop
 returns_5 c =
-    let l = c.before.before in
-    let a = l.before.before.args in
-    let all : l.loop.others ≡ 0 = omega arith in
-    rw (c.stopped-at5.ensures, l.loop.invariant, all, fills_end a.file.now a.width a.starts.now a.ends.now a.limit)
+    let a = c.args in
+    let all : c.loop-others.others ≡ 0 = omega arith in
+    rw (c.stopped_at-2.ensures, c.loop-others.invariant, all, fills_end a.file.now a.width a.starts.now a.ends.now a.limit)
 
 pub fills_from_spec : {M : Type 1} → statement M
 fills_from_spec =

@@ -10,45 +10,37 @@ use Rattle.play_fast_fill_step.specs.FillStep.{fill_step}
 use Rattle.play_fast_fill_step.proofs.fill_step.Statement.{statement}
 use Rattle.play_fast_fill_step.proofs.fill_step.Tie as tie
 
-returns : tie.Need-returns
+returns : tie.Need-returns-then-playing
 unfolding fill_step
-returns c = simp (c.before.if1.true, ← c.no_step.ensures)
+returns c = simp (c.if-playing.true, ← c.no_step.ensures)
 
-returns_2 : tie.Need-returns-2
+returns_2 : tie.Need-returns-then-opcode-gt1
 unfolding fill_step
 returns_2 c =
-    let b = c.before.before in
-    simp (b.before.before.if1.false, ← b.byte_at.ensures, lt-ltb _ _ c.before.if2.true, ← c.no-step2.ensures)
+    simp (c.if-playing.false, ← c.byte_at-opcode.ensures, lt-ltb _ _ c.if-opcode-gt1.true, ← c.no_step-then-opcode-gt1.ensures)
 
-returns_3 : tie.Need-returns-3
+returns_3 : tie.Need-returns-then-not-fills
 unfolding fill_step
 returns_3 c =
-    let k = c.before.before.before in
-    let t = k.before.before in
-    let b = t.before in
-    simp (b.before.before.if1.false, ← b.byte_at.ensures, le-ltb _ _ t.if2.false, ← k.before.operations-left.ensures.0, ← k.take-fills.ensures, c.before.if3.true, ← c.no-step3.ensures)
+    simp (c.if-playing.false, ← c.byte_at-opcode.ensures, le-ltb _ _ c.if-opcode-gt1.false, ← c.operations_left-left.ensures.0, ← c.take_fills-fills.ensures, c.if-not-fills.true, ← c.no_step-then-not-fills.ensures)
 
-fewer : (c : tie.After-struct-known2)
-    → (c.before.before.before.take-fills.result.left ≤ c.before.before.before.before.operations-left.result)
-    × (c.before.before.before.take-fills.result.room ≤ c.before.before.before.before.before.before.before.before.before.before.args.room)
+fewer : (c : tie.After-struct_known-2-1)
+    → (c.take_fills-fills.result.left ≤ c.operations_left-left.result)
+    × (c.take_fills-fills.result.room ≤ c.args.room)
 fewer c =
-    let k = c.before.before.before in
-    let a = k.before.before.before.before.before.before.before.args in
-    fills_fewer a.file.now a.version (cards_of a.cards) a.playing.limit k.before.operations-left.result a.room a.playing.at.cursor a.playing.at.write_index k.take-fills.result k.take-fills.ensures
+    let a = c.args in
+    fills_fewer a.file.now a.version (cards_of a.cards) a.playing.limit c.operations_left-left.result a.room a.playing.at.cursor a.playing.at.write_index c.take_fills-fills.result c.take_fills-fills.ensures
 
-sub_count : tie.Need-overflow-sub-count
+sub_count : tie.Need-overflow_sub-count
 sub_count c = (fewer c).1
 
-step_to_requires : tie.Need-step-to-requires
-step_to_requires c κs = omega (arith, (fewer c).0, c.before.before.before.before.operations-left.ensures.0)
+step_to_requires : tie.Need-step_to-requires
+step_to_requires c κs = omega (arith, (fewer c).0, c.operations_left-left.ensures.0)
 
-returns_4 : tie.Need-returns-4
+returns_4 : tie.Need-returns
 unfolding fill_step
 returns_4 c =
-    let k = c.before.before.before.before in
-    let t = k.before.before in
-    let b = t.before in
-    simp (b.before.before.if1.false, ← b.byte_at.ensures, le-ltb _ _ t.if2.false, ← k.before.operations-left.ensures.0, ← k.take-fills.ensures, c.before.before.if3.false, ← c.step-to.ensures)
+    simp (c.if-playing.false, ← c.byte_at-opcode.ensures, le-ltb _ _ c.if-opcode-gt1.false, ← c.operations_left-left.ensures.0, ← c.take_fills-fills.ensures, c.if-not-fills.false, ← c.step_to.ensures)
 
 pub fill_step_spec : {M : Type 1} → statement M
 fill_step_spec =

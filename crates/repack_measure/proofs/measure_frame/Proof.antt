@@ -20,7 +20,7 @@ use Rattle.repack_measure.proofs.Noted.{noted_more, taken_more, notes_more}
 use Rattle.repack_measure.proofs.measure_frame.Statement.{statement}
 use Rattle.repack_measure.proofs.measure_frame.Tie as tie
 
-abbrev invariant_loop : tie.invariant-loop
+abbrev invariant_loop : tie.invariant-loop-left
 invariant_loop file start count known noted heads₀ next₀ places₀ spots₀ numbers₀ write copy at₀ left₀ waves₀ uses₀ size₀ heads next places spots numbers at left waves uses size =
     (at + left * 5 ≡ start + count * 5)
     × Table file heads next places waves
@@ -33,95 +33,89 @@ invariant_loop file start count known noted heads₀ next₀ places₀ spots₀ 
     × (uses * 1280 ≤ at)
     × (notes_over file (notes heads₀ next₀ places₀ known spots₀ numbers₀ noted) (uses_at file count start) ≡ notes_over file (notes heads next places waves spots numbers uses) (uses_at file left at))
 
-abbrev decreases_loop : tie.decreases-loop
+abbrev decreases_loop : tie.decreases-loop-left
 decreases_loop file start count known noted heads₀ next₀ places₀ spots₀ numbers₀ write copy at₀ left₀ waves₀ uses₀ size₀ heads next places spots numbers at left waves uses size = left
 
 -- a wave starts, and its records lie in the file
-starts : (c : tie.Then1 invariant_loop decreases_loop) → starts_wave (records_at c.before.before.before.before.before.before.before.args.file.now c.before.before.before.loop.left c.before.before.before.loop.at) ≡ true
-starts c = sym c.before.starts-wave.ensures ∙ c.if1.true
+starts : (c : tie.Then-starts_wave invariant_loop decreases_loop) → starts_wave (records_at c.args.file.now c.loop-left.left c.loop-left.at) ≡ true
+starts c = sym c.starts_wave.ensures ∙ c.if-starts_wave.true
 
-long : (c : tie.Then1 invariant_loop decreases_loop) → 256 ≤ c.before.before.before.loop.left
-long c = let l = c.before.before.before.loop in wave_long c.before.before.before.before.before.before.before.args.file.now l.left l.at (starts c)
+long : (c : tie.Then-starts_wave invariant_loop decreases_loop) → 256 ≤ c.loop-left.left
+long c = let l = c.loop-left in wave_long c.args.file.now l.left l.at (starts c)
 
-few : (c : tie.After-add-wave invariant_loop decreases_loop) → c.add-wave.result.number ≤ 11468
+few : (c : tie.After-add_wave-wave invariant_loop decreases_loop) → c.add_wave-wave.result.number ≤ 11468
 few c =
-    let p = c.before.before.before.before.before.before.before in
-    let s = p.before.before.before.before in
-    let l = p.loop in
-    omega (arith, c.add-wave.ensures.number_is, number_few s.args.file.now l.heads l.next l.places l.waves l.at l.invariant.1)
+    let l = c.loop-left in
+    omega (arith, c.add_wave-wave.ensures.number_is, number_few c.args.file.now l.heads l.next l.places l.waves l.at l.invariant.1)
 
-loop_holds : tie.Need-loop-init invariant_loop decreases_loop
-loop_holds c = let p = c.before.before.before.requires in (refl, p.0, refl, omega arith, omega arith, omega arith, p.1, refl, p.4, refl)
+loop_holds : tie.Need-loop-left-init invariant_loop decreases_loop
+loop_holds c = let p = c.requires in (refl, p.0, refl, omega arith, omega arith, omega arith, p.1, refl, p.4, refl)
 
-add_wave_requires : tie.Need-add-wave-requires invariant_loop decreases_loop
+add_wave_requires : tie.Need-add_wave-wave-requires invariant_loop decreases_loop
 add_wave_requires c κs =
-    let l = c.before.before.before.before.before.before.loop in
+    let l = c.loop-left in
     let more = long c.before.before.before in
-    (l.invariant.1, omega arith, l.invariant.4, c.before.before.before.before.before.before.before.before.before.before.requires.5)
+    (l.invariant.1, omega arith, l.invariant.4, c.requires.5)
 
-note_use_requires : tie.Need-note-use-requires invariant_loop decreases_loop
+note_use_requires : tie.Need-note_use-requires invariant_loop decreases_loop
 note_use_requires c κs =
-    let l = c.before.before.before.before.before.before.before.before.before.loop in
+    let l = c.loop-left in
     let more = long c.before.before.before.before.before.before in
     (l.invariant.6.spots_size, l.invariant.6.numbers_size, omega arith, omega arith, omega (arith, few c.before.before))
 
-add_uses : tie.Need-overflow-add-uses invariant_loop decreases_loop
+add_uses : tie.Need-overflow_add-uses invariant_loop decreases_loop
 add_uses c = omega arith
 
-add_at : tie.Need-overflow-add-at invariant_loop decreases_loop
+add_at : tie.Need-overflow_add-at invariant_loop decreases_loop
 add_at c = omega (arith, long c.before.before.before.before.before.before.before)
 
-sub_left : tie.Need-overflow-sub-left invariant_loop decreases_loop
+sub_left : tie.Need-overflow_sub-left invariant_loop decreases_loop
 sub_left c = long c.before.before.before.before.before.before.before
 
-add_size : tie.Need-overflow-add-size invariant_loop decreases_loop
+add_size : tie.Need-overflow_add-size invariant_loop decreases_loop
 add_size c = omega arith
 
-loop_less : tie.Need-loop-smaller invariant_loop decreases_loop
+loop_less : tie.Need-loop-left-smaller-then-starts_wave invariant_loop decreases_loop
 loop_less c = omega (arith, long c.before.before.before.before.before.before.before)
 
-loop_again : tie.Need-loop-preserved invariant_loop decreases_loop
+loop_again : tie.Need-loop-left-preserved-then-starts_wave invariant_loop decreases_loop
 loop_again c =
-    let t = c.before.before.before in
-    let u = t.before.before.before.before in
-    let p = u.before.before.before in
-    let s = p.before.before.before.before in
-    let l = p.loop in
-    let file = s.args.file.now in
-    let wave = starts (u) in
-    let records = long (u) in
-    let more = t.add-wave.ensures in
-    let noting = c.note-use.ensures in (
+    let l = c.loop-left in
+    let file = c.args.file.now in
+    let wave = starts (c) in
+    let records = long (c) in
+    let more = c.add_wave-wave.ensures in
+    let noting = c.note_use.ensures in (
       omega arith,
       more.table,
       l.invariant.2 ∙ waves_wave file (waves_in file l.places l.waves) l.left l.at wave ∙ ap (λ (known : List (List ℕ)). frame_waves known file (l.left - 256) (l.at + 1280)) (sym more.waves),
       omega (arith, l.invariant.3, size_wave file 0 [] l.left l.at wave),
       omega (arith, more.more),
       omega arith,
-      rw (noting.0, noting.1) (noted_more l.invariant.6 more (omega arith) (few (t))),
+      rw (noting.0, noting.1) (noted_more l.invariant.6 more (omega arith) (few (c))),
       l.invariant.7 ∙ rw (uses_wave file l.left l.at wave, noting.0) (taken_more l.invariant.6 l.at (omega arith) (uses_at file (l.left - 256) (l.at + 1280))),
       omega arith,
       l.invariant.9 ∙ rw (uses_wave file l.left l.at wave) (notes_more l.spots l.numbers l.uses more noting.0 noting.1 (uses_at file (l.left - 256) (l.at + 1280))),
     )
 
-add_at_2 : tie.Need-overflow-add-at-2 invariant_loop decreases_loop
+add_at_2 : tie.Need-overflow_add-at-else-starts_wave invariant_loop decreases_loop
 add_at_2 c = omega arith
 
-sub_left_2 : tie.Need-overflow-sub-left-2 invariant_loop decreases_loop
+sub_left_2 : tie.Need-overflow_sub-left-else-starts_wave invariant_loop decreases_loop
 sub_left_2 c = omega arith
 
-add_size_2 : tie.Need-overflow-add-size-2 invariant_loop decreases_loop
+add_size_2 : tie.Need-overflow_add-size-else-starts_wave invariant_loop decreases_loop
 add_size_2 c = omega arith
 
-loop_less_2 : tie.Need-loop-smaller-2 invariant_loop decreases_loop
+loop_less_2 : tie.Need-loop-left-smaller invariant_loop decreases_loop
 loop_less_2 c = omega arith
 
-loop_again_2 : tie.Need-loop-preserved-2 invariant_loop decreases_loop
+loop_again_2 : tie.Need-loop-left-preserved invariant_loop decreases_loop
 loop_again_2 c =
-    let l = c.before.before.before.loop in
-    let file = c.before.before.before.before.before.before.before.args.file.now in
-    let some = c.before.before.loop-test.true in
-    let single = sym c.before.starts-wave.ensures ∙ c.if1.false in (
+    let l = c.loop-left in
+    let file = c.args.file.now in
+    let some = c.loop-left-test.true in
+    let single = sym c.starts_wave.ensures ∙ c.if-starts_wave.false in (
       omega arith,
       l.invariant.1,
       l.invariant.2 ∙ waves_single file (waves_in file l.places l.waves) l.left l.at some single,
@@ -137,8 +131,8 @@ loop_again_2 c =
 returns : tie.Need-returns invariant_loop decreases_loop
 unfolding notes_over
 returns c =
-    let l = c.before.loop in
-    let file = c.before.before.before.before.before.args.file.now in
+    let l = c.loop-left in
+    let file = c.args.file.now in
     let none : l.left ≡ 0 = omega arith in (
       record {
         table = l.invariant.1;

@@ -17,7 +17,7 @@ use Rattle.repack_measure.proofs.Noted.{onward, notes_onward}
 use Rattle.repack_measure.proofs.measure_frames.Statement.{statement}
 use Rattle.repack_measure.proofs.measure_frames.Tie as tie
 
-abbrev invariant_loop : tie.invariant-loop
+abbrev invariant_loop : tie.invariant-loop-left
 invariant_loop file start count heads₀ next₀ places₀ spots₀ numbers₀ at₀ left₀ waves₀ uses₀ size₀ heads next places spots numbers at left waves uses size =
     (frames_end file left at ≤ length file)
     × Table file heads next places waves
@@ -30,72 +30,60 @@ invariant_loop file start count heads₀ next₀ places₀ spots₀ numbers₀ a
     × (uses * 1280 ≤ at)
     × (notes_over file (notes heads₀ next₀ places₀ 0 spots₀ numbers₀ 0) (all_uses file count start) ≡ notes_over file (notes heads next places waves spots numbers uses) (all_uses file left at))
 
-abbrev decreases_loop : tie.decreases-loop
+abbrev decreases_loop : tie.decreases-loop-left
 decreases_loop file start count heads₀ next₀ places₀ spots₀ numbers₀ at₀ left₀ waves₀ uses₀ size₀ heads next places spots numbers at left waves uses size = left
 
 -- the frame lies in the file
-inside : (c : tie.After-struct-known invariant_loop decreases_loop)
-    → c.before.before.before.before.before.before.before.before.before.loop.at + (2 + c.before.before.before.before.before.before.before.read-u16.result * 5) ≤ length
-    c.before.before.before.before.before.before.before.before.before.before.before.args.file.now
+inside : (c : tie.After-struct_known-1 invariant_loop decreases_loop)
+    → c.loop-left.at + (2 + c.read_u16-records.result * 5) ≤ length
+    c.args.file.now
 inside c =
-    let t = c.before.before.before.before.before.before.before in
-    let u = t.before in
-    let p = u.before in
-    let s = p.before.before in
-    let l = p.loop in
-    omega (arith, frame_within s.args.file.now l.left l.at u.loop-test.true, t.read-u16.ensures, l.invariant.0)
+    let l = c.loop-left in
+    omega (arith, frame_within c.args.file.now l.left l.at c.loop-left-test.true, c.read_u16-records.ensures, l.invariant.0)
 
-loop_holds : tie.Need-loop-init invariant_loop decreases_loop
-loop_holds c = (c.before.requires.2, c.before.requires.0, refl, omega arith, omega arith, omega arith, c.before.requires.1, refl, omega arith, refl)
+loop_holds : tie.Need-loop-left-init invariant_loop decreases_loop
+loop_holds c = (c.requires.2, c.requires.0, refl, omega arith, omega arith, omega arith, c.requires.1, refl, omega arith, refl)
 
-add_measure_frame : tie.Need-overflow-add-measure-frame invariant_loop decreases_loop
+add_measure_frame : tie.Need-overflow_add-at invariant_loop decreases_loop
 add_measure_frame c =
-    let l = c.before.before.loop in
-    omega (arith, frame_within c.before.before.before.before.args.file.now l.left l.at c.before.loop-test.true)
+    let l = c.loop-left in
+    omega (arith, frame_within c.args.file.now l.left l.at c.loop-left-test.true)
 
-measure_frame_requires : tie.Need-measure-frame-requires invariant_loop decreases_loop
+measure_frame_requires : tie.Need-measure_frame-frame-requires invariant_loop decreases_loop
 measure_frame_requires c κs =
-    let t = c.before.before.before.before.before in
-    let u = t.before in
-    let p = u.before in
-    let s = p.before.before in
-    let l = p.loop in
-    let within = frame_within s.args.file.now l.left l.at u.loop-test.true in
-    (l.invariant.1, l.invariant.6, omega (arith, within, t.read-u16.ensures, l.invariant.0), omega arith, omega arith, s.requires.3)
+    let l = c.loop-left in
+    let within = frame_within c.args.file.now l.left l.at c.loop-left-test.true in
+    (l.invariant.1, l.invariant.6, omega (arith, within, c.read_u16-records.ensures, l.invariant.0), omega arith, omega arith, c.requires.3)
 
-add_size : tie.Need-overflow-add-size invariant_loop decreases_loop
-add_size c = omega (arith, c.before.measure-frame.ensures.0.small, inside c)
+add_size : tie.Need-overflow_add-size invariant_loop decreases_loop
+add_size c = omega (arith, c.measure_frame-frame.ensures.0.small, inside c)
 
-add_size_2 : tie.Need-overflow-add-size-2 invariant_loop decreases_loop
-add_size_2 c = omega (arith, c.before.measure-frame.ensures.0.small, inside c)
+add_size_2 : tie.Need-overflow_add-size-in-loop-left invariant_loop decreases_loop
+add_size_2 c = omega (arith, c.measure_frame-frame.ensures.0.small, inside c)
 
-mul_at : tie.Need-overflow-mul-at invariant_loop decreases_loop
+mul_at : tie.Need-overflow_mul-at invariant_loop decreases_loop
 mul_at c = omega (arith, inside c)
 
-add_at : tie.Need-overflow-add-at invariant_loop decreases_loop
+add_at : tie.Need-overflow_add-at-in-loop-left invariant_loop decreases_loop
 add_at c = omega (arith, inside c)
 
-add_at_2 : tie.Need-overflow-add-at-2 invariant_loop decreases_loop
+add_at_2 : tie.Need-overflow_add-at-in-loop-left-2 invariant_loop decreases_loop
 add_at_2 c = omega (arith, inside c)
 
-sub_left : tie.Need-overflow-sub-left invariant_loop decreases_loop
+sub_left : tie.Need-overflow_sub-left invariant_loop decreases_loop
 sub_left c = omega arith
 
-loop_less : tie.Need-loop-smaller invariant_loop decreases_loop
+loop_less : tie.Need-loop-left-smaller invariant_loop decreases_loop
 loop_less c = omega arith
 
-loop_again : tie.Need-loop-preserved invariant_loop decreases_loop
+loop_again : tie.Need-loop-left-preserved invariant_loop decreases_loop
 loop_again c =
-    let t = c.before.before.before.before.before.before.before in
-    let u = t.before in
-    let p = u.before in
-    let s = p.before.before in
-    let l = p.loop in
-    let frame = c.before.measure-frame.ensures.0 in
-    let file = s.args.file.now in
-    let place = l.at + (2 + t.read-u16.result * 5) in
-    let behind : behind_frame file l.at ≡ place = omega (arith, t.read-u16.ensures) in
-    let on = onward file l.left l.at l.waves l.uses l.places l.spots _ _ _ _ _ _ _ _ _ place u.loop-test.true (sym t.read-u16.ensures) behind frame in (
+    let l = c.loop-left in
+    let frame = c.measure_frame-frame.ensures.0 in
+    let file = c.args.file.now in
+    let place = l.at + (2 + c.read_u16-records.result * 5) in
+    let behind : behind_frame file l.at ≡ place = omega (arith, c.read_u16-records.ensures) in
+    let on = onward file l.left l.at l.waves l.uses l.places l.spots _ _ _ _ _ _ _ _ _ place c.loop-left-test.true (sym c.read_u16-records.ensures) behind frame in (
       omega (arith, on.end_on, l.invariant.0),
       frame.table,
       l.invariant.2 ∙ on.waves_on,
@@ -105,14 +93,14 @@ loop_again c =
       frame.noting,
       l.invariant.7 ∙ on.uses_on,
       omega (arith, frame.few_uses),
-      l.invariant.9 ∙ notes_onward file l.left l.at _ place _ _ u.loop-test.true (sym t.read-u16.ensures) behind c.before.measure-frame.ensures.1,
+      l.invariant.9 ∙ notes_onward file l.left l.at _ place _ _ c.loop-left-test.true (sym c.read_u16-records.ensures) behind c.measure_frame-frame.ensures.1,
     )
 
 returns : tie.Need-returns invariant_loop decreases_loop
 unfolding notes_over
 returns c =
-    let l = c.before.loop in
-    let file = c.before.before.before.args.file.now in
+    let l = c.loop-left in
+    let file = c.args.file.now in
     let none : l.left ≡ 0 = omega arith in (
       record {
         noting = l.invariant.6;

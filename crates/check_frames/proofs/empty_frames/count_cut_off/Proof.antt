@@ -8,14 +8,14 @@ use lib.ListN.{length}
 use Rattle.check_frames.proofs.empty_frames.count_cut_off.Statement.{statement}
 use Rattle.check_frames.proofs.empty_frames.count_cut_off.Tie as tie
 
-returns : tie.Need-returns
-returns c = sym (lt-ltb (length c.before.args.file.now) (c.before.args.at + 2) (omega arith))
+returns : tie.Need-returns-then-file-lt2
+returns c = sym (lt-ltb (length c.args.file.now) (c.args.at + 2) (omega arith))
 
-returns_2 : tie.Need-returns-2
-returns_2 c = sym (lt-ltb (length c.before.before.args.file.now) (c.before.before.args.at + 2) (omega arith))
+returns_2 : tie.Need-returns-then-file-at
+returns_2 c = sym (lt-ltb (length c.args.file.now) (c.args.at + 2) (omega arith))
 
-returns_3 : tie.Need-returns-3
-returns_3 c = sym (le-ltb (length c.before.before.args.file.now) (c.before.before.args.at + 2) (omega arith))
+returns_3 : tie.Need-returns
+returns_3 c = sym (le-ltb (length c.args.file.now) (c.args.at + 2) (omega arith))
 
 pub count_cut_off_spec : {M : Type 1} → statement M
 count_cut_off_spec = tie.close (tie.spec returns (search rules) returns_2 returns_3)

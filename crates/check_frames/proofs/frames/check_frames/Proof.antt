@@ -23,125 +23,109 @@ use Rattle.check_frames.proofs.FrameWalk.{frames_step, frames_end_lem}
 use Rattle.check_frames.proofs.frames.check_frames.Statement.{statement}
 use Rattle.check_frames.proofs.frames.check_frames.Tie as tie
 
-abbrev invariant_loop : tie.invariant-loop
+abbrev invariant_loop : tie.invariant-loop-left
 invariant_loop file header cards table si22 version pools directory at₀ left₀ seen₀ at left seen =
     frames_said (setting_of file header cards) file header.frame_count header.frame_start si22 ≡ frames_said (setting_of file header cards) file left at seen
 
-abbrev decreases_loop : tie.decreases-loop
+abbrev decreases_loop : tie.decreases-loop-left
 decreases_loop file header cards table si22 version pools directory at₀ left₀ seen₀ at left seen = left
 
-loop_holds : tie.Need-loop-init invariant_loop decreases_loop
+loop_holds : tie.Need-loop-left-init invariant_loop decreases_loop
 loop_holds c = refl
 
 -- behind the empty frames
-behind : (k : tie.After-skip-empty invariant_loop decreases_loop)
-    → let l = k.before.before in
-    let s = l.before.before.args in
-    Skipped (setting_of s.file.now s.header s.cards) s.file.now l.loop.left l.loop.at l.loop.seen
+behind : (k : tie.After-skip_empty-next invariant_loop decreases_loop)
+    → let s = k.args in
+    Skipped (setting_of s.file.now s.header s.cards) s.file.now k.loop-left.left k.loop-left.at k.loop-left.seen
 behind k =
-    let l = k.before.before in
-    let s = l.before.before.args in
-    skip (setting_of s.file.now s.header s.cards) s.file.now l.loop.left l.loop.at l.loop.seen k.before.loop-test.true
+    let s = k.args in
+    skip (setting_of s.file.now s.header s.cards) s.file.now k.loop-left.left k.loop-left.at k.loop-left.seen k.loop-left-test.true
 
 -- a frame is left
-some : (k : tie.After-skip-empty invariant_loop decreases_loop) → 0 < k.skip-empty.result.left
-some k = rw k.skip-empty.ensures (behind k).some
+some : (k : tie.After-skip_empty-next invariant_loop decreases_loop) → 0 < k.skip_empty-next.result.left
+some k = rw k.skip_empty-next.ensures (behind k).some
 
 -- the first of the frames that are left, and the others
-first : (k : tie.After-skip-empty invariant_loop decreases_loop)
-    → let l = k.before.before in
-    let s = l.before.before.args in
+first : (k : tie.After-skip_empty-next invariant_loop decreases_loop)
+    → let s = k.args in
     let setting = setting_of s.file.now s.header s.cards in
-    let next = k.skip-empty.result in
+    let next = k.skip_empty-next.result in
     frames_said setting s.file.now s.header.frame_count s.header.frame_start s.si22
     ≡ (refuse 14 next.at (ltb (length s.file.now) (next.at + 2))
-    >> (walked setting s.file.now (length s.file.now) (be 2 s.file.now next.at) (next.at + 2) >>= λ (frame : ℕ × Bool). frames_said setting s.file.now (next.left - 1) frame.0 (l.loop.seen || frame.1)))
+    >> (walked setting s.file.now (length s.file.now) (be 2 s.file.now next.at) (next.at + 2) >>= λ (frame : ℕ × Bool). frames_said setting s.file.now (next.left - 1) frame.0 (k.loop-left.seen || frame.1)))
 first k =
-    let l = k.before.before in
-    let s = l.before.before.args in
-    let next = k.skip-empty.result in
-    rw (l.loop.invariant, (behind k).decides, ← k.skip-empty.ensures) (frames_step (setting_of s.file.now s.header s.cards) s.file.now next.left next.at l.loop.seen (some k))
+    let s = k.args in
+    let next = k.skip_empty-next.result in
+    rw (k.loop-left.invariant, (behind k).decides, ← k.skip_empty-next.ensures) (frames_step (setting_of s.file.now s.header s.cards) s.file.now next.left next.at k.loop-left.seen (some k))
 
-returns : tie.Need-returns invariant_loop decreases_loop
-returns c = rw (first c.before.before, ← c.before.count-cut-off.ensures, c.if1.true)
+returns : tie.Need-returns-then-count_cut_off invariant_loop decreases_loop
+returns c = rw (first c.before.before, ← c.count_cut_off.ensures, c.if-count_cut_off.true)
 
-add_frame_run : tie.Need-overflow-add-frame-run invariant_loop decreases_loop
+add_frame_run : tie.Need-overflow_add-next invariant_loop decreases_loop
 add_frame_run c =
-    let cut = c.before.before.before in
-    let k = cut.before in
-    omega (arith, ltb-false (length k.before.before.before.before.args.file.now) (k.skip-empty.result.at + 2) (sym cut.count-cut-off.ensures ∙ c.before.before.if1.false))
+    omega (arith, ltb-false (length c.args.file.now) (c.skip_empty-next.result.at + 2) (sym c.count_cut_off.ensures ∙ c.if-count_cut_off.false))
 
 -- a frame whose count is there: what was passed quickly, its other operations, and then the frames behind it
-step : (f : tie.After-frame-run invariant_loop decreases_loop)
-    → let k = f.before.before.before.before.before in
-    let l = k.before.before in
-    let s = l.before.before.args in
+step : (f : tie.After-frame_run-run invariant_loop decreases_loop)
+    → let s = f.args in
     let setting = setting_of s.file.now s.header s.cards in
-    let run = f.frame-run.result in
+    let run = f.frame_run-run.result in
     frames_said setting s.file.now s.header.frame_count s.header.frame_start s.si22
-    ≡ (walked_with run.si22 setting s.file.now (length s.file.now) run.left run.at >>= λ (frame : ℕ × Bool). frames_said setting s.file.now (k.skip-empty.result.left - 1) frame.0 (l.loop.seen || frame.1))
+    ≡ (walked_with run.si22 setting s.file.now (length s.file.now) run.left run.at >>= λ (frame : ℕ × Bool). frames_said setting s.file.now (f.skip_empty-next.result.left - 1) frame.0 (f.loop-left.seen || frame.1))
 step f =
-    let read = f.before.before in
-    let k = read.before.before.before in
-    let start = k.before.before.before.before in
-    let s = start.args in
+    let k = f.before.before.before.before.before in
+    let s = k.args in
     let h = s.header in
     rw (
       first k,
-      ← read.before.before.count-cut-off.ensures,
-      read.before.if1.false,
-      ← read.read-u16.ensures,
-      quick_ran h.version (cards_of s.cards) h.pool_count h.directory_offset s.file.now s.table.now (length s.file.now) read.read-u16.result (k.skip-empty.result.at + 2) start.requires,
-      ← f.frame-run.ensures,
+      ← f.count_cut_off.ensures,
+      f.if-count_cut_off.false,
+      ← f.read_u16-count.ensures,
+      quick_ran h.version (cards_of s.cards) h.pool_count h.directory_offset s.file.now s.table.now (length s.file.now) f.read_u16-count.result (k.skip_empty-next.result.at + 2) k.requires,
+      ← f.frame_run-run.ensures,
     )
 
 -- operations that were not passed quickly
-slow : (c : tie.After-check-operations invariant_loop decreases_loop)
-    → let f = c.before.before.before.before in
-    let k = f.before.before.before.before.before in
-    let l = k.before.before in
-    let s = l.before.before.args in
+slow : (c : tie.After-check_operations invariant_loop decreases_loop)
+    → let s = c.args in
     let setting = setting_of s.file.now s.header s.cards in
     frames_said setting s.file.now s.header.frame_count s.header.frame_start s.si22
-    ≡ (mapped {B = ℕ × Bool} (λ (found : ℕ × Bool). (found.0, f.frame-run.result.si22 || found.1)) (walked_of c.check-operations.result) >>= λ (frame : ℕ × Bool).
-    frames_said setting s.file.now (k.skip-empty.result.left - 1) frame.0 (l.loop.seen || frame.1))
+    ≡ (mapped {B = ℕ × Bool} (λ (found : ℕ × Bool). (found.0, c.frame_run-run.result.si22 || found.1)) (walked_of c.check_operations.result) >>= λ (frame : ℕ × Bool).
+    frames_said setting s.file.now (c.skip_empty-next.result.left - 1) frame.0 (c.loop-left.seen || frame.1))
 slow c =
     let f = c.before.before.before.before in
-    let s = f.before.before.before.before.before.before.before.before.before.args in
-    let run = f.frame-run.result in
-    rw (step f, walked_with_lem run.si22 (setting_of s.file.now s.header s.cards) s.file.now (length s.file.now) run.left run.at, ← c.check-operations.ensures)
+    let s = f.args in
+    let run = f.frame_run-run.result in
+    rw (step f, walked_with_lem run.si22 (setting_of s.file.now s.header s.cards) s.file.now (length s.file.now) run.left run.at, ← c.check_operations.ensures)
 
-returns_2 : tie.Need-returns-2 invariant_loop decreases_loop
-returns_2 c = rw (slow c.before.before.before, c.before.refusal.given.1)
+returns_2 : tie.Need-returns-in-Refused invariant_loop decreases_loop
+returns_2 c = rw (slow c.before.before.before, c.in-Refused.is)
 
-sub_left : tie.Need-overflow-sub-left invariant_loop decreases_loop
+sub_left : tie.Need-overflow_sub-left invariant_loop decreases_loop
 sub_left c = omega (arith, some c.before.before.before.before.before.before.before.before.before)
 
-loop_less : tie.Need-loop-smaller invariant_loop decreases_loop
+loop_less : tie.Need-loop-left-smaller invariant_loop decreases_loop
 loop_less c =
     let k = c.before.before.before.before.before.before.before.before.before in
-    omega (arith, some k, (behind k).fewer, ap (λ (r : FramesLeft). r.left) k.skip-empty.ensures)
+    omega (arith, some k, (behind k).fewer, ap (λ (r : FramesLeft). r.left) k.skip_empty-next.ensures)
 
-loop_again : tie.Need-loop-preserved invariant_loop decreases_loop
+loop_again : tie.Need-loop-left-preserved invariant_loop decreases_loop
 loop_again c =
-    let j = c.before in
-    let f = j.before.before.before in
-    let l = f.before.before.before.before.before.before.before in
-    let s = l.before.before.args in
-    let run = f.frame-run.result in
-    elim j.if2.branch [
-      | inl quick ↦ rw (quick.1, quick.2, step f, quick.0.taken, walk_end run.si22 (setting_of s.file.now s.header s.cards) s.file.now (length s.file.now) run.at, j.before.before.either.ensures)
+    let f = c.before.before.before.before in
+    let s = f.args in
+    let run = f.frame_run-run.result in
+    elim c.if-run-eq0.branch [
+      | inl quick ↦ rw (quick.1, quick.2, step f, quick.0.taken, walk_end run.si22 (setting_of s.file.now s.header s.cards) s.file.now (length s.file.now) run.at, c.either-seen.ensures)
       | inr rest ↦
-          let checked : tie.After-check-operations invariant_loop decreases_loop = record { before = record { before = j.before; if2 = rest.0 }; check-operations = rest.1 } in
-          rw (rest.6, rest.7, slow checked, rest.3.given.1, rest.5.ensures, j.before.before.either.ensures) (ap (frames_said _ _ _ _) (sym (or_assoc l.loop.seen run.si22 rest.3.given.0.1.0)))
+          let checked : tie.After-check_operations invariant_loop decreases_loop = record { before = record { before = c; if2 = rest.0 }; check-operations = rest.1 } in
+          rw (rest.6, rest.7, slow checked, rest.3.given.1, rest.5.ensures, c.either-seen.ensures) (ap (frames_said _ _ _ _) (sym (or_assoc f.loop-left.seen run.si22 rest.3.given.0.1.0)))
     ]
 
-returns_3 : tie.Need-returns-3 invariant_loop decreases_loop
+returns_3 : tie.Need-returns invariant_loop decreases_loop
 returns_3 c =
-    let l = c.before in
-    let s = l.before.before.args in
-    let none : l.loop.left ≡ 0 = omega arith in
-    rw (l.loop.invariant, none, frames_end_lem (setting_of s.file.now s.header s.cards) s.file.now l.loop.at l.loop.seen)
+    let s = c.args in
+    let none : c.loop-left.left ≡ 0 = omega arith in
+    rw (c.loop-left.invariant, none, frames_end_lem (setting_of s.file.now s.header s.cards) s.file.now c.loop-left.at c.loop-left.seen)
 
 pub check_frames_spec : {M : Type 1} → statement M
 check_frames_spec =

@@ -6,10 +6,10 @@ use Rattle.check_fast.proofs.Ran.{quick_none}
 use Rattle.check_frames.proofs.frames.frame_run.Statement.{statement}
 use Rattle.check_frames.proofs.frames.frame_run.Tie as tie
 
-returns : tie.Need-returns
+returns : tie.Need-returns-then-count-eq0
 returns c =
-    let a = c.before.before.args in
-    rw c.if1.true (sym (quick_none a.version a.pools a.directory a.file.now a.table.now (length a.file.now) a.at))
+    let a = c.args in
+    rw c.if-count-eq0.true (sym (quick_none a.version a.pools a.directory a.file.now a.table.now (length a.file.now) a.at))
 
 pub frame_run_spec : {M : Type 1} → statement M
 frame_run_spec = tie.close (tie.spec returns (search rules) (λ c. search rules))

@@ -6,4 +6,4 @@ use Rattle.compare_images.proofs.master.draw_master.Tie as tie
 pub draw_master_spec : {M : Type 1} → statement M
 draw_master_spec =
     tie.close
-    (tie.spec (search rules) (search rules) (search rules) (λ c. rw (c.before.before.play-records.ensures, c.before.before.before.before.before.before.begin-image.ensures)))
+    (tie.spec (search rules) (search rules) (search rules) (λ c. rw (c.play_records.ensures, c.begin_image.ensures)))

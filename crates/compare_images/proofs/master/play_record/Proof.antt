@@ -29,26 +29,21 @@ module _ (image file : List ℕ) (at : ℕ) (bytes : List ℕ) (item : Decoded) 
   plays e =
       sym (item_plays ∙ ap (λ (t : ℕ). played image (write t item.address item.value ∷ [])) e ∙ write_in image item.address item.value)
 
-returns : tie.Need-returns
+returns : tie.Need-returns-then-item-ne2
 returns c =
-    let item = c.before.before in
-    let a = item.before.before.before.before.args in
-    another a.image.now a.file.now a.at _ _ item.before.item-bytes.ensures item.decode-record.ensures c.if1.true
+    let a = c.args in
+    another a.image.now a.file.now a.at _ _ c.item_bytes.ensures c.decode_record-item.ensures c.if-item-ne2.true
 
-returns_2 : tie.Need-returns-2
+returns_2 : tie.Need-returns-then-image-address
 returns_2 c =
-    let two = c.before.before in
-    let item = two.before.before in
-    let a = item.before.before.before.before.args in
-    sym (set_out a.image.now _ _ c.if2.true)
-    ∙ plays a.image.now a.file.now a.at _ _ item.before.item-bytes.ensures item.decode-record.ensures two.if1.false
+    let a = c.args in
+    sym (set_out a.image.now _ _ c.if-image-address.true)
+    ∙ plays a.image.now a.file.now a.at _ _ c.item_bytes.ensures c.decode_record-item.ensures c.if-item-ne2.false
 
-returns_3 : tie.Need-returns-3
+returns_3 : tie.Need-returns
 returns_3 c =
-    let two = c.before.before in
-    let item = two.before.before in
-    let a = item.before.before.before.before.args in
-    plays a.image.now a.file.now a.at _ _ item.before.item-bytes.ensures item.decode-record.ensures two.if1.false
+    let a = c.args in
+    plays a.image.now a.file.now a.at _ _ c.item_bytes.ensures c.decode_record-item.ensures c.if-item-ne2.false
 
 pub play_record_spec : {M : Type 1} → statement M
 play_record_spec = tie.close (tie.spec (search rules) (search rules) returns (search rules) returns_2 (search rules) (search rules) returns_3)

@@ -12,36 +12,34 @@ use Rattle.compare_image_bytes.proofs.Image.{records_step, records_end, played_l
 use Rattle.compare_images.proofs.master.play_records.Statement.{statement}
 use Rattle.compare_images.proofs.master.play_records.Tie as tie
 
-abbrev invariant_loop : tie.invariant-loop
+abbrev invariant_loop : tie.invariant-loop-left
 invariant_loop file start count image₀ at₀ left₀ image at left =
     (length image ≡ length image₀)
     × (at + left * record_size ≤ 0x2000000000)
     × (played image₀ (record_writes file count start) ≡ played image (record_writes file left at))
 
-abbrev decreases_loop : tie.decreases-loop
+abbrev decreases_loop : tie.decreases-loop-left
 decreases_loop file start count image₀ at₀ left₀ image at left =
     left
 
-loop_again : tie.Need-loop-preserved invariant_loop decreases_loop
+loop_again : tie.Need-loop-left-preserved invariant_loop decreases_loop
 loop_again c =
-    let record-played = c.before.before in
-    let test = record-played.before.before in
-    let l = test.before.loop in
-    let a = test.before.before.before.before.args in
-    let step = records_step a.file.now l.image l.left l.at test.loop-test.true in (
-      rw (record-played.play-record.ensures, played_length) l.invariant.0,
+    let l = c.loop-left in
+    let a = c.args in
+    let step = records_step a.file.now l.image l.left l.at c.loop-left-test.true in (
+      rw (c.play_record.ensures, played_length) l.invariant.0,
       omega arith,
-      l.invariant.2 ∙ step ∙ rw (← record-played.play-record.ensures),
+      l.invariant.2 ∙ step ∙ rw (← c.play_record.ensures),
     )
 
 returns : tie.Need-returns invariant_loop decreases_loop
 returns c =
-    let l = c.before.loop in
-    let a = c.before.before.before.before.args in
+    let l = c.loop-left in
+    let a = c.args in
     let none : l.left ≡ 0 = omega arith in
     rw (l.invariant.2, none) (sym (records_end a.file.now l.image l.at))
 
 pub play_records_spec : {M : Type 1} → statement M
 play_records_spec =
     tie.close
-    (tie.spec invariant_loop decreases_loop (λ c. (refl, omega arith, refl)) (search rules) (search rules) (search rules) (search rules) loop_again (λ c. c.before.loop.invariant.0) returns)
+    (tie.spec invariant_loop decreases_loop (λ c. (refl, omega arith, refl)) (search rules) (search rules) (search rules) (search rules) loop_again (λ c. c.loop-left.invariant.0) returns)

@@ -6,4 +6,4 @@ use Rattle.compare_images.proofs.other.draw_other.Tie as tie
 pub draw_other_spec : {M : Type 1} → statement M
 draw_other_spec =
     tie.close
-    (tie.spec (search rules) (search rules) (search rules) (λ c. rw (c.before.before.play-operations.ensures, c.before.before.before.before.before.before.begin-image.ensures)))
+    (tie.spec (search rules) (search rules) (search rules) (λ c. rw (c.play_operations.ensures, c.begin_image.ensures)))

@@ -14,38 +14,36 @@ use Rattle.compare_image_bytes.proofs.Image.{operations_step, operations_end_lem
 use Rattle.compare_images.proofs.other.play_operations.Statement.{statement}
 use Rattle.compare_images.proofs.other.play_operations.Tie as tie
 
-abbrev invariant_loop : tie.invariant-loop
+abbrev invariant_loop : tie.invariant-loop-left
 invariant_loop file directory start count image₀ at₀ left₀ image at left =
     (length image ≡ length image₀)
     × (at + left * operation_most ≤ 0x2000000000)
     × (played image₀ (operation_writes file directory count start) ≡ played image (operation_writes file directory left at))
 
-abbrev decreases_loop : tie.decreases-loop
+abbrev decreases_loop : tie.decreases-loop-left
 decreases_loop file directory start count image₀ at₀ left₀ image at left =
     left
 
-loop_again : tie.Need-loop-preserved invariant_loop decreases_loop
+loop_again : tie.Need-loop-left-preserved invariant_loop decreases_loop
 loop_again c =
-    let after = c.before.before in
-    let s = after.before.before in
-    let l = s.before.before.loop in
-    let a = s.before.before.before.before.before.args in
-    let near = ap (λ (x : Segment). x.next) s.segment-at.ensures.0 in
-    let step = operations_step a.file.now l.image a.directory l.left l.at s.before.loop-test.true in (
-      rw (after.play-segment.ensures, played_length) l.invariant.0,
+    let l = c.loop-left in
+    let a = c.args in
+    let near = ap (λ (x : Segment). x.next) c.segment_at-segment.ensures.0 in
+    let step = operations_step a.file.now l.image a.directory l.left l.at c.loop-left-test.true in (
+      rw (c.play_segment.ensures, played_length) l.invariant.0,
       omega (arith, near, next_near a.file.now a.directory l.at),
-      l.invariant.2 ∙ step ∙ rw (← s.segment-at.ensures.0, ← after.play-segment.ensures),
+      l.invariant.2 ∙ step ∙ rw (← c.segment_at-segment.ensures.0, ← c.play_segment.ensures),
     )
 
 returns : tie.Need-returns invariant_loop decreases_loop
 returns c =
-    let l = c.before.loop in
-    let a = c.before.before.before.before.args in
+    let l = c.loop-left in
+    let a = c.args in
     let none : l.left ≡ 0 = omega arith in
     rw (l.invariant.2, none) (sym (operations_end_lem a.file.now l.image a.directory l.at))
 
 pub play_operations_spec : {M : Type 1} → statement M
 play_operations_spec =
     tie.close
-    (tie.spec invariant_loop decreases_loop (λ c. (refl, omega arith, refl)) (search rules) (λ c κs. c.before.segment-at.ensures.1) (search rules) (search rules) loop_again
-    (λ c. c.before.loop.invariant.0) returns)
+    (tie.spec invariant_loop decreases_loop (λ c. (refl, omega arith, refl)) (search rules) (λ c κs. c.segment_at-segment.ensures.1) (search rules) (search rules) loop_again
+    (λ c. c.loop-left.invariant.0) returns)

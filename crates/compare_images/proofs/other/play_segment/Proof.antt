@@ -10,38 +10,32 @@ use Rattle.compare_image_bytes.proofs.Image.{copy_other, copy_past, copy_min}
 use Rattle.compare_images.proofs.other.play_segment.Statement.{statement}
 use Rattle.compare_images.proofs.other.play_segment.Tie as tie
 
-returns : tie.Need-returns
+returns : tie.Need-returns-then-segment-ne2
 returns c =
-    let a = c.before.before.before.before.args in
-    sym (copy_other a.file.now a.image.now a.segment.target a.segment.address a.segment.source (source_step a.segment.copied) a.segment.count (ne_eqb _ _ c.if1.true))
+    let a = c.args in
+    sym (copy_other a.file.now a.image.now a.segment.target a.segment.address a.segment.source (source_step a.segment.copied) a.segment.count (ne_eqb _ _ c.if-segment-ne2.true))
 
-returns_2 : tie.Need-returns-2
+returns_2 : tie.Need-returns-then-image-address
 returns_2 c =
-    let a = c.before.before.before.before.before.before.args in
-    rw c.before.before.if1.false (sym (copy_past a.file.now a.image.now a.segment.address a.segment.source (source_step a.segment.copied) a.segment.count c.if2.true))
+    let a = c.args in
+    rw c.if-segment-ne2.false (sym (copy_past a.file.now a.image.now a.segment.address a.segment.source (source_step a.segment.copied) a.segment.count c.if-image-address.true))
 
-returns_3 : tie.Need-returns-3
+returns_3 : tie.Need-returns-then-segment
 returns_3 c =
-    let t = c.before.before.before.before in
-    let n = t.before in
-    let o = n.before.before in
-    let a = o.before.before.before.before.before.before.args in
-    c.before.before.copy.ensures
-    ∙ rw (n.smaller.ensures.0, o.before.before.if1.false, t.if3.true) (copy_min a.file.now a.image.now a.segment.address a.segment.source 1 a.segment.count (omega arith))
+    let a = c.args in
+    c.copy.ensures
+    ∙ rw (c.smaller-count.ensures.0, c.if-segment-ne2.false, c.if-segment.true) (copy_min a.file.now a.image.now a.segment.address a.segment.source 1 a.segment.count (omega arith))
 
-returns_4 : tie.Need-returns-4
+returns_4 : tie.Need-returns-else-segment
 returns_4 c =
-    let t = c.before.before.before.before.before in
-    let n = t.before in
-    let o = n.before.before in
-    let a = o.before.before.before.before.before.before.args in
-    c.before.before.fill.ensures
+    let a = c.args in
+    c.fill.ensures
     ∙ rw (
-      c.before.before.before.byte_at.ensures,
-      ← (spread_fill a.file.now 2 a.segment.address a.segment.source n.smaller.result),
-      n.smaller.ensures.0,
-      o.before.before.if1.false,
-      t.if3.false,
+      c.byte_at.ensures,
+      ← (spread_fill a.file.now 2 a.segment.address a.segment.source c.smaller-count.result),
+      c.smaller-count.ensures.0,
+      c.if-segment-ne2.false,
+      c.if-segment.false,
     ) (copy_min a.file.now a.image.now a.segment.address a.segment.source 0 a.segment.count (omega arith))
 
 pub play_segment_spec : {M : Type 1} → statement M
