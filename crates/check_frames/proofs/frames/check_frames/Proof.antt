@@ -5,13 +5,13 @@ use borrow.Author.Tests.{ltb-false}
 use Prim.Native.Nat.{ℕ, ◌+◌, ◌-◌, ◌<◌}
 use mathlib.Core.Path.{◌≡◌, refl, sym, ap, ◌∙◌}
 use mathlib.Core.Bool.{Bool, ◌||◌, or_assoc}
-use mathlib.Core.Logic.{inl, inr}
 use lib.Dec.{ltb}
 use lib.ListN.{length}
 use Rattle.base_format.specs.Bytes.{be}
 use Rattle.base_format.specs.Card.{cards_of}
 use Rattle.base_format.specs.Checked.{refuse, mapped, ◌>>=◌, ◌>>◌}
 use Rattle.base_format.specs.Operation.{setting_of}
+use Rattle.check_items.specs.declared.walk.Walked.{Walked}
 use Rattle.check_items.specs.Answer.{walked_of}
 use Rattle.check_items.specs.Walk.{walked, walked_with}
 use Rattle.check_items.proofs.Steps.{walk_end, walked_with_lem}
@@ -21,6 +21,7 @@ use Rattle.check_frames.specs.Frames.{frames_said}
 use Rattle.check_frames.proofs.Empty.{Skipped, skip}
 use Rattle.check_frames.proofs.FrameWalk.{frames_step, frames_end_lem}
 use Rattle.check_frames.proofs.frames.check_frames.Statement.{statement}
+use Rattle.check_frames.proofs.frames.check_frames.Lts.{then-run-eq0, else-run-eq0+in-End}
 use Rattle.check_frames.proofs.frames.check_frames.Tie as tie
 
 abbrev invariant_loop : tie.invariant-loop-left
@@ -86,20 +87,20 @@ step f =
     )
 
 -- operations that were not passed quickly
-slow : (c : tie.After-check_operations invariant_loop decreases_loop)
-    → let s = c.args in
+slow : (f : tie.After-frame_run-run invariant_loop decreases_loop) (found : Walked)
+    → let s = f.args in
     let setting = setting_of s.file.now s.header s.cards in
-    frames_said setting s.file.now s.header.frame_count s.header.frame_start s.si22
-    ≡ (mapped {B = ℕ × Bool} (λ (found : ℕ × Bool). (found.0, c.frame_run-run.result.si22 || found.1)) (walked_of c.check_operations.result) >>= λ (frame : ℕ × Bool).
-    frames_said setting s.file.now (c.skip_empty-next.result.left - 1) frame.0 (c.loop-left.seen || frame.1))
-slow c =
-    let f = c.before.before.before.before in
+    let run = f.frame_run-run.result in
+    walked_of found ≡ walked setting s.file.now (length s.file.now) run.left run.at
+    → frames_said setting s.file.now s.header.frame_count s.header.frame_start s.si22
+    ≡ (mapped {B = ℕ × Bool} (λ (more : ℕ × Bool). (more.0, run.si22 || more.1)) (walked_of found) >>= λ (frame : ℕ × Bool). frames_said setting s.file.now (f.skip_empty-next.result.left - 1) frame.0 (f.loop-left.seen || frame.1))
+slow f found said =
     let s = f.args in
     let run = f.frame_run-run.result in
-    rw (step f, walked_with_lem run.si22 (setting_of s.file.now s.header s.cards) s.file.now (length s.file.now) run.left run.at, ← c.check_operations.ensures)
+    rw (step f, walked_with_lem run.si22 (setting_of s.file.now s.header s.cards) s.file.now (length s.file.now) run.left run.at, ← said)
 
 returns_2 : tie.Need-returns-in-Refused invariant_loop decreases_loop
-returns_2 c = rw (slow c.before.before.before, c.in-Refused.is)
+returns_2 c = rw (slow c.before.before.before.before.before c.check_operations.result c.check_operations.ensures, c.in-Refused.is)
 
 sub_left : tie.Need-overflow_sub-left invariant_loop decreases_loop
 sub_left c = omega (arith, some c.before.before.before.before.before.before.before.before.before)
@@ -115,10 +116,10 @@ loop_again c =
     let s = f.args in
     let run = f.frame_run-run.result in
     elim c.if-run-eq0.branch [
-      | inl quick ↦ rw (quick.1, quick.2, step f, quick.0.taken, walk_end run.si22 (setting_of s.file.now s.header s.cards) s.file.now (length s.file.now) run.at, c.either-seen.ensures)
-      | inr rest ↦
-          let checked : tie.After-check_operations invariant_loop decreases_loop = record { before = record { before = c; if2 = rest.0 }; check-operations = rest.1 } in
-          rw (rest.6, rest.7, slow checked, rest.3.given.1, rest.5.ensures, c.either-seen.ensures) (ap (frames_said _ _ _ _) (sym (or_assoc f.loop-left.seen run.si22 rest.3.given.0.1.0)))
+      then-run-eq0 w ↦ rw (w.at-is, w.seen-is, step f, w.if-run-eq0.true, walk_end run.si22 (setting_of s.file.now s.header s.cards) s.file.now (length s.file.now) run.at, c.either-seen.ensures)
+    | else-run-eq0+in-End w ↦
+        rw (w.at-is, w.seen-is, slow f w.check_operations.result w.check_operations.ensures, w.in-End.is, w.either-seen-in-End.ensures, c.either-seen.ensures)
+        (ap (frames_said _ _ _ _) (sym (or_assoc f.loop-left.seen run.si22 w.in-End.si22)))
     ]
 
 returns_3 : tie.Need-returns invariant_loop decreases_loop
