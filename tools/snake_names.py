@@ -190,6 +190,8 @@ def main():
         for m in USE.finditer(t):
             module = m.group(1)
             fields |= {n for n in members.get(module, ()) if plain(n) != n}
+        # Of a record whose module the file does not name; Rattle's own labels may end in -is.
+        fields |= {n for names in members.values() for n in names if plain(n) != n and not n.endswith('-is')}
         # What a generated module declares, or a library, keeps its name.
         foreign = set()
         for module, items in imports(t):

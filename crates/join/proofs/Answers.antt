@@ -67,7 +67,7 @@ module _ (file file' : List ℕ) (header header' : Header) (both : (version_head
   operations_are = ap first_count (sym (stream_is file' header' bytes' h')) ∙ said
 
   pools_are : length h.stream.pools + length h'.stream.pools ≡ pools
-  pools_are = λ i. (parts file header bytes h).pools-said i + (parts file' header' bytes' h').pools-said i
+  pools_are = λ i. (parts file header bytes h).pools_said i + (parts file' header' bytes' h').pools_said i
 
   -- each file has its header
   pub headers_room : 80 ≤ length file + length file'

@@ -42,7 +42,7 @@ module _ (file : List ℕ) (header : Header) (bytes : AllBytes file) (h : Has 2 
   p = parts file header bytes h
 
   no_cards : header.card_count ≡ 0
-  no_cards = sym p.cards_said ∙ ap (λ (l : List CardRequirement). length l) ((accepted file h.stream bytes h.reads).0.cards-below (omega (arith, h.is)))
+  no_cards = sym p.cards_said ∙ ap (λ (l : List CardRequirement). length l) ((accepted file h.stream bytes h.reads).0.cards_below (omega (arith, h.is)))
 
   directory_at : header.directory_offset ≡ 40
   unfolding header_size

@@ -46,7 +46,7 @@ module _ (file : List ℕ) (header : Header) (cards : CardTable) (c : PlayingPar
   unfolding step_stored writes_stored fills_stored plain_writes fill_records
   step_stored_lem run (plainly k) =
       let all = storable_all version file (length run) k.end step.from step.plain k.inside (rw (← k.same) k.fit) k.some in
-      rw (k.no-others, all, append-nil (plain_writes version file step.plain step.from)) (no_fills file version step.from step.made _)
+      rw (k.no_others, all, append-nil (plain_writes version file step.plain step.from)) (no_fills file version step.from step.made _)
   step_stored_lem run (filling k) =
       let all : min (length run) step.others ≡ step.others = omega (arith, k.fit) in
       rw (k.no_plain, no_writes file version step.from run, all)
@@ -54,5 +54,5 @@ module _ (file : List ℕ) (header : Header) (cards : CardTable) (c : PlayingPar
   pub step_long : (room : ℕ) → Kind file header cards c room step → step.count ≡ length (records_by file version step)
   unfolding plain_writes fill_records
   step_long room (plainly k) =
-      rw (k.no-others, append-nil (plain_writes version file step.plain step.from), writes_long version file step.plain step.from) k.same
+      rw (k.no_others, append-nil (plain_writes version file step.plain step.from), writes_long version file step.plain step.from) k.same
   step_long room (filling k) = rw (k.no_plain, records_long file version step.others (fill_place step.from step.made)) k.same

@@ -66,7 +66,7 @@ module _ {file : List ℕ} {header : Header} {places spots numbers : List ℕ} {
 
   made_is : repacked (master_of file header) ≡ s
   unfolding repacked pcm_bytes
-  made_is = ap (made file header) (unfold all_waves in known.measured.waves-are)
+  made_is = ap (made file header) (unfold all_waves in known.measured.waves_are)
 
   few : waves ≤ length places
   few = omega (arith, known.measured.few, known.measured.places_size)

@@ -25,10 +25,10 @@ module _ {file : List ℕ} {header : Header} {places spots numbers : List ℕ} {
   pub marked : MarkedFrames file spots 0 header.frame_count start
   marked =
       let n = known.measured.noting in
-      all_marked (omega (arith, n.few, n.spots_size)) n.few (sym known.measured.uses-are) (n.rest uses (le_refl uses))
+      all_marked (omega (arith, n.few, n.spots_size)) n.few (sym known.measured.uses_are) (n.rest uses (le_refl uses))
 
   pub frames_are : (base : ℕ) → frames_by numbers base 0 file header.frame_count start ≡ frame_bytes base (waves_in file places waves) file header.frame_count start
   frames_are base =
       let n = known.measured.noting in
-      let all = ap length known.measured.uses-are ∙ length-take-le uses spots (omega (arith, n.few, n.spots_size)) in
-      frames_by_is (waves_in file places waves) numbers base file spots 0 header.frame_count start marked (λ k less. n.numbers-are k (omega (arith, all)))
+      let all = ap length known.measured.uses_are ∙ length-take-le uses spots (omega (arith, n.few, n.spots_size)) in
+      frames_by_is (waves_in file places waves) numbers base file spots 0 header.frame_count start marked (λ k less. n.numbers_are k (omega (arith, all)))

@@ -7,9 +7,7 @@ use Rattle.repack_layout.proofs.lay_out.Tie as tie
 returns : tie.Need-returns
 unfolding layout_of
 returns c =
-    let sizes = c.before.before in
-    let fill = sizes.before.before in
-    rw (c.pcm-pool2.ensures.0, c.before.pcm-fill-count.ensures.0, sizes.copy-size.ensures.0, sizes.before.writes-size.ensures.0, fill.fill-size.ensures.0, fill.before.pcm-pool.ensures.0)
+    rw (c.pcm_pool-2.ensures.0, c.pcm_fill_count.ensures.0, c.copy_size.ensures.0, c.writes_size.ensures.0, c.fill_size.ensures.0, c.pcm_pool.ensures.0)
 
 pub lay_out_spec : {M : Type 1} → statement M
 lay_out_spec =

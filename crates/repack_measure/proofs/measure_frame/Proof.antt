@@ -82,8 +82,8 @@ loop_again : tie.Need-loop-left-preserved-then-starts_wave invariant_loop decrea
 loop_again c =
     let l = c.loop-left in
     let file = c.args.file.now in
-    let wave = starts (c) in
-    let records = long (c) in
+    let wave = starts c.before.before.before.before.before.before.before in
+    let records = long c.before.before.before.before.before.before.before in
     let more = c.add_wave-wave.ensures in
     let noting = c.note_use.ensures in (
       omega arith,
@@ -92,7 +92,7 @@ loop_again c =
       omega (arith, l.invariant.3, size_wave file 0 [] l.left l.at wave),
       omega (arith, more.more),
       omega arith,
-      rw (noting.0, noting.1) (noted_more l.invariant.6 more (omega arith) (few (c))),
+      rw (noting.0, noting.1) (noted_more l.invariant.6 more (omega arith) (few c.before.before.before)),
       l.invariant.7 ∙ rw (uses_wave file l.left l.at wave, noting.0) (taken_more l.invariant.6 l.at (omega arith) (uses_at file (l.left - 256) (l.at + 1280))),
       omega arith,
       l.invariant.9 ∙ rw (uses_wave file l.left l.at wave) (notes_more l.spots l.numbers l.uses more noting.0 noting.1 (uses_at file (l.left - 256) (l.at + 1280))),

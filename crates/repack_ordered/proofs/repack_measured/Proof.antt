@@ -10,21 +10,21 @@ use Rattle.repack_ordered.proofs.repack_measured.Statement.{statement}
 use Rattle.repack_ordered.proofs.repack_measured.Tie as tie
 
 mul_start : tie.Need-overflow-mul-start
-mul_start c = omega (arith, (here c.before.before.before.before.requires).opening-fits)
+mul_start c = omega (arith, (here c.before.before.before.before.requires).opening_fits)
 
 add_start : tie.Need-overflow-add-start
-add_start c = omega (arith, (here c.before.before.before.before.requires).opening-fits)
+add_start c = omega (arith, (here c.before.before.before.before.requires).opening_fits)
 
 measure_frames_requires : tie.Need-measure-frames-requires
 measure_frames_requires c κs =
     let s = c.before.before.before.before.before.before.before.before.before in
     let lies = here s.requires in
-    (no_waves s.args.file.now, none_noted s.args.file.now (replicate 11468 0), lies.frames-fit, lies.small)
+    (no_waves s.args.file.now, none_noted s.args.file.now (replicate 11468 0), lies.frames_fit, lies.small)
 
 lay_out_requires : tie.Need-lay-out-requires
 lay_out_requires c κs =
     let known = known_of c.before.before.before.before.before.before.before.before.before.before.requires c.measure-frames.ensures.0 in
-    (pcm_few known, omega (arith, known.opening-fits, known.small), known.decreases.few, known.decreases.small)
+    (pcm_few known, omega (arith, known.opening_fits, known.small), known.decreases.few, known.decreases.small)
 
 returns : tie.Need-returns
 returns c =

@@ -12,37 +12,33 @@ use Rattle.base_master.proofs.Numbered.{frame_by_size}
 use Rattle.repack_put_frames.proofs.put_frame.Statement.{statement}
 use Rattle.repack_put_frames.proofs.put_frame.Tie as tie
 
-add_behind : tie.Need-overflow-add-behind
+add_behind : tie.Need-overflow_add-behind
 add_behind c =
-    let a = c.before.before.before.args in
-    omega (arith, c.before.before.before.requires.4, frame_by_size a.numbers.now a.base a.file.now a.used a.from)
+    let a = c.args in
+    omega (arith, c.requires.4, frame_by_size a.numbers.now a.base a.file.now a.used a.from)
 
-put_pieces_requires : tie.Need-put-pieces-requires
+put_pieces_requires : tie.Need-put_pieces-pieces-requires
 put_pieces_requires c κs =
-    let a = c.before.before.before.before.args in
-    let p = c.before.before.before.before.requires in
-    rw c.before.read-u16.ensures (p.0, p.1, omega arith, p.2, p.3, omega (arith, p.4, frame_by_size a.numbers.now a.base a.file.now a.used a.from))
+    let a = c.args in
+    let p = c.requires in
+    rw c.read_u16-records.ensures (p.0, p.1, omega arith, p.2, p.3, omega (arith, p.4, frame_by_size a.numbers.now a.base a.file.now a.used a.from))
 
-cast_put_count : tie.Need-overflow-cast-put-count
+cast_put_count : tie.Need-overflow_cast-pieces
 cast_put_count c =
-    let t = c.before.before.before.before in
-    let u = t.before.before in
-    let s = u.before.before.before in
-    let a = s.args in
-    omega (arith, t.put-pieces.ensures.1, pieces_few a.file.now u.read-u16.result (a.from + 2), u.read-u16)
+    let a = c.args in
+    omega (arith, c.put_pieces-pieces.ensures.1, pieces_few a.file.now c.read_u16-records.result (a.from + 2), c.read_u16-records)
 
 returns : tie.Need-returns
 unfolding frame_by
 returns c =
-    let s = c.before.before.before.before.before.before.before.before.before.before.before.before in
-    let a = s.args in
+    let a = c.args in
     let file = a.file.now in
-    let e = c.before.before.before.before.before.before.before.before.before.read-u16.ensures in
-    let pieces = c.before.before.before.before.before.before.before.put-pieces.ensures in
+    let e = c.read_u16-records.ensures in
+    let pieces = c.put_pieces-pieces.ensures in
     let count = piece_count file (be 2 file a.from) (a.from + 2) in
     let all = pieces_by a.numbers.now a.base a.used file (be 2 file a.from) (a.from + 2) in
     let long = frame_by_size a.numbers.now a.base file a.used a.from in (
-      rw (c.before.before.put_count.ensures, pieces.1, pieces.0, e) (put_counted count a.at all a.buffer.now (omega (arith, s.requires.4, long))),
+      rw (c.put_count.ensures, pieces.1, pieces.0, e) (put_counted count a.at all a.buffer.now (omega (arith, c.requires.4, long))),
       rw e at pieces.2 ∙ omega (arith, frame_by_size a.numbers.now a.base file a.used a.from),
       rw e at pieces.3,
     )

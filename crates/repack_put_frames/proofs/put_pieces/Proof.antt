@@ -23,7 +23,7 @@ use Rattle.bytes_put_fields.proofs.Writing.{Writing, starts, wrote, ends}
 use Rattle.repack_put_frames.proofs.put_pieces.Statement.{statement}
 use Rattle.repack_put_frames.proofs.put_pieces.Tie as tie
 
-abbrev invariant_loop : tie.invariant-loop
+abbrev invariant_loop : tie.invariant-loop-left
 invariant_loop file start count base spots numbers used buffer₀ at write copy from₀ left₀ place₀ pieces₀ uses₀ buffer from left place pieces uses =
     (from + left * 5 ≡ start + count * 5)
     × (start ≤ from)
@@ -32,117 +32,117 @@ invariant_loop file start count base spots numbers used buffer₀ at write copy 
     × Marked file spots uses left from
     × Writing (pieces_by numbers base used file count start) at buffer₀ (pieces_by numbers base uses file left from) place buffer
 
-abbrev decreases_loop : tie.decreases-loop
+abbrev decreases_loop : tie.decreases-loop-left
 decreases_loop file start count base spots numbers used buffer₀ at write copy from₀ left₀ place₀ pieces₀ uses₀ buffer from left place pieces uses = left
 
 -- the noted place tells whether a wave starts
-starts_here : (c : tie.Then1 invariant_loop decreases_loop)
-    → starts_wave (records_at c.before.before.before.before.before.before.before.before.before.args.file.now c.before.before.before.before.loop.left c.before.before.before.before.loop.from) ≡ true
-starts_here c = let l = c.before.before.before.before.loop in marked_starts l.invariant.4 c.before.before.before.loop-test.true (omega arith) (sym c.before.noted-place.ensures ∙ c.if1.true)
+starts_here : (c : tie.Then-noted_place-from invariant_loop decreases_loop)
+    → starts_wave (records_at c.args.file.now c.loop-left.left c.loop-left.from) ≡ true
+starts_here c = let l = c.loop-left in marked_starts l.invariant.4 c.loop-left-test.true (omega arith) (sym c.noted_place.ensures ∙ c.if-noted_place-from.true)
 
-starts_not : (c : tie.Else1 invariant_loop decreases_loop)
-    → starts_wave (records_at c.before.before.before.before.before.before.before.before.before.args.file.now c.before.before.before.before.loop.left c.before.before.before.before.loop.from) ≡ false
-starts_not c = unmarked_starts c.before.before.before.before.loop.invariant.4 (λ e. c.if1.false (c.before.noted-place.ensures ∙ e))
+starts_not : (c : tie.Else-noted_place-from invariant_loop decreases_loop)
+    → starts_wave (records_at c.args.file.now c.loop-left.left c.loop-left.from) ≡ false
+starts_not c = unmarked_starts c.loop-left.invariant.4 (λ e. c.if-noted_place-from.false (c.noted_place.ensures ∙ e))
 
-long : (c : tie.Then1 invariant_loop decreases_loop) → 256 ≤ c.before.before.before.before.loop.left
-long c = let l = c.before.before.before.before.loop in wave_long c.before.before.before.before.before.before.before.before.before.args.file.now l.left l.from (starts_here c)
+long : (c : tie.Then-noted_place-from invariant_loop decreases_loop) → 256 ≤ c.loop-left.left
+long c = let l = c.loop-left in wave_long c.args.file.now l.left l.from (starts_here c)
 
 -- what a wave and a record take of the buffer
-wave_room : (c : tie.Then1 invariant_loop decreases_loop) → c.before.before.before.before.loop.place + size_of 3 2 ≤ length c.before.before.before.before.loop.buffer
+wave_room : (c : tie.Then-noted_place-from invariant_loop decreases_loop) → c.loop-left.place + size_of 3 2 ≤ length c.loop-left.buffer
 wave_room c =
-    let l = c.before.before.before.before.loop in
-    let a = c.before.before.before.before.before.before.before.before.before.args in
+    let l = c.loop-left in
+    let a = c.args in
     omega (arith, by_wave_size a.numbers.now a.base a.file.now l.uses l.left l.from (starts_here c), l.invariant.5.fits)
 
-record_room : (c : tie.Else1 invariant_loop decreases_loop) → c.before.before.before.before.loop.place + size_of 3 0 ≤ length c.before.before.before.before.loop.buffer
+record_room : (c : tie.Else-noted_place-from invariant_loop decreases_loop) → c.loop-left.place + size_of 3 0 ≤ length c.loop-left.buffer
 record_room c =
-    let l = c.before.before.before.before.loop in
-    let a = c.before.before.before.before.before.before.before.before.before.args in
-    omega (arith, by_single_size a.numbers.now a.base a.file.now l.uses l.left l.from c.before.before.before.loop-test.true (starts_not c), l.invariant.5.fits)
+    let l = c.loop-left in
+    let a = c.args in
+    omega (arith, by_single_size a.numbers.now a.base a.file.now l.uses l.left l.from c.loop-left-test.true (starts_not c), l.invariant.5.fits)
 
 -- the wave is one of those that are noted
-use_few : (c : tie.Then1 invariant_loop decreases_loop) → c.before.before.before.before.loop.uses < 11468
+use_few : (c : tie.Then-noted_place-from invariant_loop decreases_loop) → c.loop-left.uses < 11468
 use_few c =
     let l = c.before.before.before.before.loop in
     omega (arith, l.invariant.4.few, ap length (uses_wave c.before.before.before.before.before.before.before.before.before.args.file.now l.left l.from (starts_here c)))
 
-loop_holds : tie.Need-loop-init invariant_loop decreases_loop
+loop_holds : tie.Need-loop-left-init invariant_loop decreases_loop
 loop_holds c =
-    let a = c.before.before.before.before.args in
-    let p = c.before.before.before.before.requires in
+    let a = c.args in
+    let p = c.requires in
     (refl, omega arith, omega arith, refl, p.1, starts (pieces_by a.numbers.now a.base a.used a.file.now a.count a.start) a.at a.buffer.now p.5)
 
-mul_noted_place : tie.Need-overflow-mul-noted-place invariant_loop decreases_loop
-mul_noted_place c = omega (arith, c.before.loop.invariant.4.few)
+mul_noted_place : tie.Need-offset_bounds-spots-uses invariant_loop decreases_loop
+mul_noted_place c = omega (arith, c.loop-left.invariant.4.few)
 
-element_copy_out_noted_place : tie.Need-element-copy-out-noted-place invariant_loop decreases_loop
-element_copy_out_noted_place c = omega (arith, c.before.loop.invariant.4.few)
+element_copy_out_noted_place : tie.Need-bounds-spots-uses invariant_loop decreases_loop
+element_copy_out_noted_place c = omega (arith, c.loop-left.invariant.4.few)
 
-mul_pool : tie.Need-overflow-mul-pool invariant_loop decreases_loop
+mul_pool : tie.Need-offset_bounds-numbers-uses invariant_loop decreases_loop
 mul_pool c = omega (arith, use_few c)
 
-element_copy_out_pool : tie.Need-element-copy-out-pool invariant_loop decreases_loop
+element_copy_out_pool : tie.Need-bounds-numbers-uses invariant_loop decreases_loop
 element_copy_out_pool c = use_few c
 
-cast_pool : tie.Need-overflow-cast-pool invariant_loop decreases_loop
-cast_pool c = omega (arith, c.before.before.before.before.before.before.before.before.before.before.requires.0.small c.before.before.before.before.before.loop.uses)
+cast_pool : tie.Need-overflow_cast-pool invariant_loop decreases_loop
+cast_pool c = omega (arith, c.requires.0.small c.loop-left.uses)
 
-add_pool : tie.Need-overflow-add-pool invariant_loop decreases_loop
-add_pool c = omega (arith, c.before.before.before.before.before.before.before.before.before.before.requires.0.small c.before.before.before.before.before.loop.uses)
+add_pool : tie.Need-overflow_add-pool invariant_loop decreases_loop
+add_pool c = omega (arith, c.requires.0.small c.loop-left.uses)
 
-cast_put_wave_copy : tie.Need-overflow-cast-put-wave-copy invariant_loop decreases_loop
-cast_put_wave_copy c = omega (arith, c.before.before.before.before.before.before.before.before.before.before.requires.0.small c.before.before.before.before.before.loop.uses)
+cast_put_wave_copy : tie.Need-overflow_cast-pool-then-noted_place-from invariant_loop decreases_loop
+cast_put_wave_copy c = omega (arith, c.requires.0.small c.loop-left.uses)
 
-put_wave_copy_requires : tie.Need-put-wave-copy-requires invariant_loop decreases_loop
+put_wave_copy_requires : tie.Need-put_wave_copy-requires invariant_loop decreases_loop
 put_wave_copy_requires c κs =
-    let more = long c.before.before in
-    (omega arith, wave_room c.before.before)
+    let more = long c.before.before.before in
+    (omega arith, wave_room c.before.before.before)
 
-add_uses : tie.Need-overflow-add-uses invariant_loop decreases_loop
-add_uses c = omega (arith, use_few c.before.before.before.before.before)
+add_uses : tie.Need-overflow_add-uses invariant_loop decreases_loop
+add_uses c = omega (arith, use_few c.before.before.before.before.before.before)
 
-add_from : tie.Need-overflow-add-from invariant_loop decreases_loop
-add_from c = omega (arith, long c.before.before.before.before.before)
+add_from : tie.Need-overflow_add-from invariant_loop decreases_loop
+add_from c = omega (arith, long c.before.before.before.before.before.before)
 
-sub_left : tie.Need-overflow-sub-left invariant_loop decreases_loop
-sub_left c = long c.before.before.before.before.before
+sub_left : tie.Need-overflow_sub-left invariant_loop decreases_loop
+sub_left c = long c.before.before.before.before.before.before
 
-add_place : tie.Need-overflow-add-place invariant_loop decreases_loop
-add_place c = omega (arith, wave_room c.before.before.before.before.before)
+add_place : tie.Need-overflow_add-place invariant_loop decreases_loop
+add_place c = omega (arith, wave_room c.before.before.before.before.before.before)
 
-put_record_requires : tie.Need-put-record-requires invariant_loop decreases_loop
+put_record_requires : tie.Need-put_record-requires invariant_loop decreases_loop
 put_record_requires c κs = (omega arith, record_room c.before)
 
-add_from_2 : tie.Need-overflow-add-from-2 invariant_loop decreases_loop
+add_from_2 : tie.Need-overflow_add-from-else-noted_place-from invariant_loop decreases_loop
 add_from_2 c = omega arith
 
-sub_left_2 : tie.Need-overflow-sub-left-2 invariant_loop decreases_loop
+sub_left_2 : tie.Need-overflow_sub-left-else-noted_place-from invariant_loop decreases_loop
 sub_left_2 c = omega arith
 
-add_place_2 : tie.Need-overflow-add-place-2 invariant_loop decreases_loop
+add_place_2 : tie.Need-overflow_add-place-else-noted_place-from invariant_loop decreases_loop
 add_place_2 c = omega (arith, record_room c.before.before.before.before)
 
-add_pieces : tie.Need-overflow-add-pieces invariant_loop decreases_loop
+add_pieces : tie.Need-overflow_add-pieces invariant_loop decreases_loop
 add_pieces c =
-    let a = c.before.before.before.before.before.before.before.before.before.args in
-    omega (arith, c.before.before.before.before.loop.invariant.2, pieces_few a.file.now a.count a.start)
+    let a = c.args in
+    omega (arith, c.loop-left.invariant.2, pieces_few a.file.now a.count a.start)
 
-loop_less : tie.Need-loop-smaller invariant_loop decreases_loop
+loop_less : tie.Need-loop-left-smaller invariant_loop decreases_loop
 loop_less c =
-    let l = c.before.before.before.before.loop in
-    ⊎_elim (λ w. rw w.8 (omega (arith, long (record { before = c.before; if1 = w.0 })))) (λ w. rw w.7 (omega arith)) c.if1.branch
+    let l = c.loop-left in
+    ⊎_elim (λ w. rw w.8 (omega (arith, long (record { before = c; if1 = w.0 })))) (λ w. rw w.7 (omega arith)) c.if-noted_place-from.branch
 
-loop_again : tie.Need-loop-preserved invariant_loop decreases_loop
+loop_again : tie.Need-loop-left-preserved invariant_loop decreases_loop
 loop_again c =
-    let l = c.before.before.before.before.loop in
-    let copy = c.before.before.before.before.before.operation-size2 in
-    let write = c.before.before.before.before.before.before.operation-size in
-    let a = c.before.before.before.before.before.before.before.before.before.args in
+    let l = c.loop-left in
+    let copy = c.operation_size-copy in
+    let write = c.operation_size-write in
+    let a = c.args in
     let file = a.file.now in
     let numbers = a.numbers.now in
     ⊎_elim
     (λ w.
-    let here : tie.Then1 invariant_loop decreases_loop = record { before = c.before; if1 = w.0 } in
+    let here : tie.Then-noted_place-from invariant_loop decreases_loop = record { before = c; if1 = w.0 } in
     let wave = starts_here here in
     let records = long here in
     rw (w.7, w.8, w.10) (
@@ -162,8 +162,8 @@ loop_again c =
           (w.6 ∙ w.3.ensures),
     ))
     (λ w.
-    let single = starts_not (record { before = c.before; if1 = w.0 }) in
-    let some = c.before.before.before.loop-test.true in
+    let single = starts_not (record { before = c; if1 = w.0 }) in
+    let some = c.loop-left-test.true in
     rw (w.6, w.7, w.9) (
       omega arith,
       omega arith,
@@ -180,13 +180,12 @@ loop_again c =
           w.8
           (w.5 ∙ w.2.ensures),
     ))
-    c.if1.branch
+    c.if-noted_place-from.branch
 
 returns : tie.Need-returns invariant_loop decreases_loop
 returns c =
-    let s = c.before.before.before.before.before.before in
-    let l = c.before.loop in
-    let a = s.args in
+    let l = c.loop-left in
+    let a = c.args in
     let file = a.file.now in
     let none : l.left ≡ 0 = omega arith in
     let done = ends l.invariant.5 (rw none (by_none a.numbers.now a.base file l.uses l.from)) in (

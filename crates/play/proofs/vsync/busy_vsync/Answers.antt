@@ -1,6 +1,9 @@
--- `play::vsync::busy_vsync` meets its contract: a step that is taken tells, stores and leaves what the call does; any other call is planned.
+-- `play::vsync::busy_vsync` meets its contract: a step that is taken tells, stores and leaves what the call does.
+use Rattle.std.proofs.Common.{◌∙◌}
 use Rattle.play.proofs.Calls.{step_told_lem}
 use Rattle.play.proofs.vsync.busy_vsync.Goals as goal
 
 pub returns-then-step : goal.returns-then-step
-returns-then-step c = ?
+returns-then-step c =
+    let told = step_told_lem c.args.state.now c.args.file.now c.args.run.now c.quick_step-step.result c.store_step.new.run c.quick_step-step.ensures c.if-step.true c.store_step.ensures in
+    (told.0, c.store_position.ensures ∙ told.1, told.2)

@@ -15,7 +15,7 @@ returns c =
 pcm_run_requires : tie.Need-pcm-run-requires
 pcm_run_requires c κs =
     let s = c.before.before.before.before.before in
-    (lies s.requires c.before.if1.false).opening-fits
+    (lies s.requires c.before.if1.false).opening_fits
 
 repack_measured_requires : tie.Need-repack-measured-requires
 repack_measured_requires c κs =
