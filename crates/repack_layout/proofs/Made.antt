@@ -203,9 +203,9 @@ module _ {file : List ℕ} {header : Header} {places spots numbers : List ℕ} {
     unfolding layout_of
     payloads_at = rw e
 
-    pub frames_at : l.frames ≡ l.opening + length (opening_part file records pcm)
+    pub frames_at_lem : l.frames ≡ l.opening + length (opening_part file records pcm)
     unfolding layout_of
-    frames_at = rw (e, opening_size)
+    frames_at_lem = rw (e, opening_size)
 
     pub total_at : l.total ≡ l.frames + length (frame_bytes (pcm_pool pcm) found file frames start)
     unfolding layout_of
@@ -227,10 +227,10 @@ module _ {file : List ℕ} {header : Header} {places spots numbers : List ℕ} {
           waves_inside = (known.measured.few, known.measured.inside);
           payloads_at = payloads_at;
           opening_at = opening_at;
-          frames_at = omega (arith, frames_at);
+          frames_at = omega (arith, frames_at_lem);
           end_at = omega (arith, total_at);
-          few = omega (arith, total_at, frames_at, opening_at, payloads_at);
-          less = omega (arith, total_at, frames_at, rw write_six at opening_size, fills_few pcm, copies_few pcm);
+          few = omega (arith, total_at, frames_at_lem, opening_at, payloads_at);
+          less = omega (arith, total_at, frames_at_lem, rw write_six at opening_size, fills_few pcm, copies_few pcm);
           small = small;
           room = room;
         }

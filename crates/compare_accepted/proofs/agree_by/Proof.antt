@@ -14,36 +14,30 @@ holds e test = sym e ∙ not-false _ test
 fails : {answer is : Bool} → answer ≡ is → not answer ≡ true → is ≡ false
 fails e test = sym e ∙ not-true _ test
 
-returns : tie.Need-returns
+returns : tie.Need-returns-then-not-same_bool
 unfolding agree_by
-returns c = rw (fails c.before.same_bool.ensures c.if1.true)
+returns c = rw (fails c.same_bool.ensures c.if-not-same_bool.true)
 
-returns_2 : tie.Need-returns-2
+returns_2 : tie.Need-returns-then-not-same_opening
 unfolding agree_by
 returns_2 c =
-    let repeats = c.before.before in
-    rw (holds repeats.before.same_bool.ensures repeats.if1.false, fails c.before.same-opening.ensures c.if2.true)
+    rw (holds c.same_bool.ensures c.if-not-same_bool.false, fails c.same_opening.ensures c.if-not-same_opening.true)
 
-returns_3 : tie.Need-returns-3
+returns_3 : tie.Need-returns-then-not-same_bytes
 unfolding agree_by
 returns_3 c =
-    let opening = c.before.before in
-    let repeats = opening.before.before in
-    let before = holds opening.before.same-opening.ensures opening.if2.false in
-    rw (holds repeats.before.same_bool.ensures repeats.if1.false, before, fails c.before.same_bytes.ensures c.if3.true)
+    let before = holds c.same_opening.ensures c.if-not-same_opening.false in
+    rw (holds c.same_bool.ensures c.if-not-same_bool.false, before, fails c.same_bytes.ensures c.if-not-same_bytes.true)
 
-returns_4 : tie.Need-returns-4
+returns_4 : tie.Need-returns
 unfolding agree_by
 returns_4 c =
-    let images = c.before in
-    let opening = images.before.before in
-    let repeats = opening.before.before in
     rw (
-      holds repeats.before.same_bool.ensures repeats.if1.false,
-      holds opening.before.same-opening.ensures opening.if2.false,
-      holds images.before.same_bytes.ensures images.if3.false,
+      holds c.same_bool.ensures c.if-not-same_bool.false,
+      holds c.same_opening.ensures c.if-not-same_opening.false,
+      holds c.same_bytes.ensures c.if-not-same_bytes.false,
     )
-    c.frames-agree.ensures
+    c.frames_agree.ensures
 
 pub agree_by_spec : {M : Type 1} → statement M
 agree_by_spec = tie.close (tie.spec (λ c κs. search rules) returns (λ c κs. search rules) returns_2 (λ c κs. search rules) returns_3 (λ c κs. search rules) returns_4)

@@ -5,13 +5,13 @@ use Rattle.compare_accepted.specs.Accepted.{frames_agree}
 use Rattle.compare_accepted.proofs.frames_agree.Statement.{statement}
 use Rattle.compare_accepted.proofs.frames_agree.Tie as tie
 
-returns : tie.Need-returns
+returns : tie.Need-returns-then-header-other_header
 unfolding frames_agree
-returns c = rw (ne_eqb _ _ c.if1.true)
+returns c = rw (ne_eqb _ _ c.if-header-other_header.true)
 
-returns_2 : tie.Need-returns-2
+returns_2 : tie.Need-returns
 unfolding frames_agree
-returns_2 c = rw (eq-eqb _ _ c.before.before.before.if1.false) c.same-frames.ensures
+returns_2 c = rw (eq-eqb _ _ c.if-header-other_header.false) c.same_frames.ensures
 
 pub frames_agree_spec : {M : Type 1} → statement M
 frames_agree_spec = tie.close (tie.spec returns (search rules) (search rules) (search rules) (search rules) (search rules) (search rules) returns_2)

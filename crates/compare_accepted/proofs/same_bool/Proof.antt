@@ -9,8 +9,8 @@ beq_true : (b : Bool) → b ≡ beq true b
 beq_true true = refl
 beq_true false = refl
 
-returns : tie.Need-returns
-returns c = rw c.if1.true (beq_true c.before.args.b)
+returns : tie.Need-returns-then-a
+returns c = rw c.if-a.true (beq_true c.args.b)
 
 pub same_bool_spec : {M : Type 1} → statement M
 same_bool_spec = tie.close (tie.spec returns (λ c. search rules))

@@ -14,7 +14,7 @@ use Rattle.bytes_put_fields.proofs.Writing.{starts, wrote, ends}
 use Rattle.repack_put_opening.specs.Opening.{opening_part}
 use Rattle.repack_layout.specs.Layout.{pcm_pool, front_of}
 use Rattle.repack_put_file.proofs.Frames.{lists, marked, frames_are}
-use Rattle.repack_layout.proofs.Made.{pcm_few, frames_at, total_at, parts_are, total_is, front_fits}
+use Rattle.repack_layout.proofs.Made.{pcm_few, frames_at_lem, total_at, parts_are, total_is, front_fits}
 use Rattle.repack_layout.proofs.Numbers.{front_size}
 use Rattle.repack_put_file.proofs.write_master.Statement.{statement}
 use Rattle.repack_put_file.proofs.write_master.Tie as tie
@@ -35,7 +35,7 @@ put_opening_requires : tie.Need-put-opening-requires
 put_opening_requires c κs =
     let a = c.before.before.before.before.before.before.before.before.before.args in
     let p = c.before.before.before.before.before.before.before.before.before.requires in
-    let ends_at = frames_at p.0 p.1 in
+    let ends_at = frames_at_lem p.0 p.1 in
     let all-at = total_at p.0 p.1 in
     (p.0.opening_fits, omega arith, omega (arith, pcm_few p.0))
 
@@ -66,7 +66,7 @@ returns c =
     let opens = front_size fits in
     let w₀ = starts (written (repacked (master_of file a.header))) 0 a.buffer.now (omega arith) in
     let w₁ = wrote w₀ f (o ++ r) (length f) {place' = a.layout.opening} parts refl (omega arith) v.write-front.ensures in
-    let w₂ = wrote w₁ o r (length o) {place' = a.layout.frames} refl refl (frames_at p.0 p.1) u.put-opening.ensures in
+    let w₂ = wrote w₁ o r (length o) {place' = a.layout.frames} refl refl (frames_at_lem p.0 p.1) u.put-opening.ensures in
     let done = wrote w₂ r [] (length r) {place' = a.layout.frames + length r} (sym (append-nil r)) refl refl (rw (t.pcm-pool.ensures.0, frames_are p.0 (pcm_pool a.pcm)) at c.before.before.put-frames.ensures) in
     (ends done refl).0
 

@@ -63,8 +63,8 @@ record_room c =
 -- the wave is one of those that are noted
 use_few : (c : tie.Then-noted_place-from invariant_loop decreases_loop) → c.loop-left.uses < 11468
 use_few c =
-    let l = c.before.before.before.before.loop in
-    omega (arith, l.invariant.4.few, ap length (uses_wave c.before.before.before.before.before.before.before.before.before.args.file.now l.left l.from (starts_here c)))
+    let l = c.loop-left in
+    omega (arith, l.invariant.4.few, ap length (uses_wave c.args.file.now l.left l.from (starts_here c)))
 
 loop_holds : tie.Need-loop-left-init invariant_loop decreases_loop
 loop_holds c =

@@ -32,10 +32,10 @@ whole c =
     )
 
 returns : tie.Need-returns-in-End
-returns c = rw (whole c.before.before.before.before, c.in-End.is, c.either.ensures)
+returns c = rw (whole c.before.before, c.in-End.is, c.either.ensures)
 
 returns_2 : tie.Need-returns-in-Refused
-returns_2 c = rw (whole c.before.before.before, c.in-Refused.is)
+returns_2 c = rw (whole c.before, c.in-Refused.is)
 
 pub check_opening_spec : {M : Type 1} → statement M
 check_opening_spec = tie.close (tie.spec (search rules) (search rules) (search rules) (search rules) (search rules) (search rules) (search rules) returns returns_2)

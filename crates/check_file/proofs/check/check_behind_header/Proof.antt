@@ -10,31 +10,29 @@ use borrow.Author.Rules.{rules}
 use Rattle.check_file.proofs.check.check_behind_header.Statement.{statement}
 use Rattle.check_file.proofs.check.check_behind_header.Tie as tie
 
-returns : tie.Need-returns
+returns : tie.Need-returns-in-Allowed
 returns c =
-    let s = c.before.before.before.before.before.before.before in
-    let read = c.before.before.before.before.before.parse-v4-cards in
-    let file = s.args.file.now in
-    let header = s.args.header in
+    let read = c.parse_v4_cards-read in
+    let file = c.args.file.now in
+    let header = c.args.header in
     rw (
-      cards_place file header (header_is file header s.requires),
+      cards_place file header (header_is file header c.requires),
       tables_passed (verdict_of read.result.verdict) (layout_from header file) read.result.cards (behind_tables file header) (cards_from file header.card_count 48 0)
-          read.ensures (sym c.before.before.before.check-layout.ensures ∙ ap verdict_of c.before.enum_told.given.1),
+          read.ensures (sym c.check_layout.ensures ∙ ap verdict_of c.in-Allowed.is),
     )
-    c.check-behind-tables.ensures
+    c.check_behind_tables.ensures
 
-returns_2 : tie.Need-returns-2
+returns_2 : tie.Need-returns-in-Refused
 returns_2 c =
-    let s = c.before.before.before.before.before.before.before.before in
-    let read = c.before.before.before.before.before.before.parse-v4-cards in
-    let file = s.args.file.now in
-    let header = s.args.header in
+    let read = c.parse_v4_cards-read in
+    let file = c.args.file.now in
+    let header = c.args.header in
     rw (
-      cards_place file header (header_is file header s.requires),
+      cards_place file header (header_is file header c.requires),
       tables_refused (verdict_of read.result.verdict) (layout_from header file) read.result.cards (behind_tables file header) (cards_from file header.card_count 48 0) _ _
-          read.ensures (sym c.before.before.before.before.check-layout.ensures ∙ ap verdict_of c.before.before.refusal.given.1),
+          read.ensures (sym c.check_layout.ensures ∙ ap verdict_of c.in-Refused.is),
     )
-    c.refused-check.ensures
+    c.refused_check.ensures
 
 pub check_behind_header_spec : {M : Type 1} → statement M
 check_behind_header_spec = tie.close (tie.spec (search rules) (search rules) (search rules) (search rules) (search rules) (search rules) returns returns_2)

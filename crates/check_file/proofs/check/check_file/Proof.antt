@@ -6,18 +6,17 @@ use borrow.Author.Rules.{rules}
 use Rattle.check_file.proofs.check.check_file.Statement.{statement}
 use Rattle.check_file.proofs.check.check_file.Tie as tie
 
-check_behind_header_requires : tie.Need-check-behind-header-requires
-check_behind_header_requires c κs = sym c.before.before.before.read-header.ensures ∙ ap header_read_of c.before.header.given.1
+check_behind_header_requires : tie.Need-check_behind_header-requires
+check_behind_header_requires c κs = sym c.read_header.ensures ∙ ap header_read_of c.in-Found.is
 
-returns : tie.Need-returns
+returns : tie.Need-returns-in-Found
 returns c =
-    rw (read_found c.before.before.before.before.before.before.args.file.now _ (sym c.before.before.before.before.read-header.ensures ∙ ap header_read_of c.before.before.header.given.1))
-    c.check-behind-header.ensures
+    rw (read_found c.args.file.now _ (sym c.read_header.ensures ∙ ap header_read_of c.in-Found.is))
+    c.check_behind_header.ensures
 
-returns_2 : tie.Need-returns-2
+returns_2 : tie.Need-returns-in-Refused
 returns_2 c =
-    let l = c.before.before.before.before in
-    rw (read_refused l.before.before.args.file.now _ _ (sym l.read-header.ensures ∙ ap header_read_of c.before.before.rule.given.1)) c.refused-check.ensures
+    rw (read_refused c.args.file.now _ _ (sym c.read_header.ensures ∙ ap header_read_of c.in-Refused.is)) c.refused_check.ensures
 
 pub check_file_spec : {M : Type 1} → statement M
 check_file_spec = tie.close (tie.spec (search rules) (search rules) check_behind_header_requires (search rules) (search rules) returns returns_2)

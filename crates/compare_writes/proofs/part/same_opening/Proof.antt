@@ -11,13 +11,13 @@ returns : tie.Need-returns-in-Same
 returns c =
     let a = c.args in
     let told = sym c.same_part.ensures ∙ c.in-Same.is in
-    sym (part_same false a.master.now a.other.now a.directory a.records master_header_size a.operations a.«other-start» _ told).0
+    sym (part_same false a.master.now a.other.now a.directory a.records master_header_size a.operations a.other_start _ told).0
 
 returns_2 : tie.Need-returns-in-Differs
 returns_2 c =
     let a = c.args in
     let told = sym c.same_part.ensures ∙ c.in-Differs.is in
-    sym (part_differs false a.master.now a.other.now a.directory a.records master_header_size a.operations a.«other-start» told)
+    sym (part_differs false a.master.now a.other.now a.directory a.records master_header_size a.operations a.other_start told)
 
 pub same_opening_spec : {M : Type 1} → statement M
 same_opening_spec = tie.close (tie.spec (λ c. omega arith) (λ c. omega arith) (λ c. omega arith) returns returns_2)
