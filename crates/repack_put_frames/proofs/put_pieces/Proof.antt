@@ -2,7 +2,7 @@
 use Prim.Native.Nat.{ℕ, ◌+◌, ◌-◌, ◌*◌, ◌≤◌, ◌<◌}
 use mathlib.Core.Path.{◌≡◌, refl, sym, ap, ◌∙◌}
 use mathlib.Core.Bool.{true, false}
-use mathlib.Core.Logic.{⊎_elim}
+use Rattle.repack_put_frames.proofs.put_pieces.Lts.{then-noted_place-from, else-noted_place-from}
 use native.Mathlib.Omega.{arith}
 use borrow.Author.Rules.{rules}
 use lib.ListN.{length, get_or}
@@ -82,7 +82,7 @@ mul_pool : tie.Need-offset_bounds-numbers-uses invariant_loop decreases_loop
 mul_pool c = omega (arith, use_few c)
 
 element_copy_out_pool : tie.Need-bounds-numbers-uses invariant_loop decreases_loop
-element_copy_out_pool c = use_few c
+element_copy_out_pool c = use_few c.before
 
 cast_pool : tie.Need-overflow_cast-pool invariant_loop decreases_loop
 cast_pool c = omega (arith, c.requires.0.small c.loop-left.uses)
@@ -130,7 +130,10 @@ add_pieces c =
 loop_less : tie.Need-loop-left-smaller invariant_loop decreases_loop
 loop_less c =
     let l = c.loop-left in
-    ⊎_elim (λ w. rw w.8 (omega (arith, long (record { before = c; if1 = w.0 })))) (λ w. rw w.7 (omega arith)) c.if-noted_place-from.branch
+    elim c.if-noted_place-from.branch [
+      then-noted_place-from w ↦ rw w.left-is (omega (arith, long (record { before = c.before; if-noted_place-from = w.if-noted_place-from })))
+    | else-noted_place-from w ↦ rw w.left-is (omega arith)
+    ]
 
 loop_again : tie.Need-loop-left-preserved invariant_loop decreases_loop
 loop_again c =
@@ -140,12 +143,12 @@ loop_again c =
     let a = c.args in
     let file = a.file.now in
     let numbers = a.numbers.now in
-    ⊎_elim
-    (λ w.
-    let here : tie.Then-noted_place-from invariant_loop decreases_loop = record { before = c; if1 = w.0 } in
+    elim c.if-noted_place-from.branch [
+      then-noted_place-from w ↦
+    let here : tie.Then-noted_place-from invariant_loop decreases_loop = record { before = c.before; if-noted_place-from = w.if-noted_place-from } in
     let wave = starts_here here in
     let records = long here in
-    rw (w.7, w.8, w.10) (
+    rw (w.from-is, w.left-is, w.uses-is) (
       omega arith,
       omega arith,
       omega (arith, l.invariant.2, pieces_wave file l.left l.from wave),
@@ -158,13 +161,13 @@ loop_again c =
           copy.result
           (by_wave numbers a.base file l.uses l.left l.from wave)
           (copy_size _ _ _ _ _ ∙ sym copy.ensures.0)
-          w.9
-          (w.6 ∙ w.3.ensures),
-    ))
-    (λ w.
-    let single = starts_not (record { before = c; if1 = w.0 }) in
+          w.place-is
+          (w.buffer-is ∙ w.put_wave_copy.ensures),
+    )
+    | else-noted_place-from w ↦
+    let single = starts_not (record { before = c.before; if-noted_place-from = w.if-noted_place-from }) in
     let some = c.loop-left-test.true in
-    rw (w.6, w.7, w.9) (
+    rw (w.from-is, w.left-is, w.uses-is) (
       omega arith,
       omega arith,
       omega (arith, l.invariant.2, pieces_single file l.left l.from some single),
@@ -177,10 +180,10 @@ loop_again c =
           write.result
           (by_single numbers a.base file l.uses l.left l.from some single)
           (write_size _ _ _ ∙ sym write.ensures.0)
-          w.8
-          (w.5 ∙ w.2.ensures),
-    ))
-    c.if-noted_place-from.branch
+          w.place-is
+          (w.buffer-is ∙ w.put_record.ensures),
+    )
+    ]
 
 returns : tie.Need-returns invariant_loop decreases_loop
 returns c =
