@@ -8,14 +8,14 @@ use borrow.Author.Rules.{rules}
 use Rattle.check_pool_lookup.proofs.find_pool.Statement.{statement}
 use Rattle.check_pool_lookup.proofs.find_pool.Tie as tie
 
-returns : tie.Need-returns
+returns : tie.Need-returns-in-Accepted
 returns c =
-    let s = c.before.before.before.before.before.before.args in
-    let a = accepted_as_lem s.file.now _ _ _ c.before.before.before.before.check-file.ensures c.before.before.answer.given.1 in
+    let s = c.args in
+    let a = accepted_as_lem s.file.now _ _ _ c.check_file-checked.ensures c.in-Accepted.is in
     rw (a.reads, c.entry_of.ensures) (ap (λ (h : Header). ok (entry_of s.file.now h s.id)) a.header_is)
 
-returns_2 : tie.Need-returns-2
-returns_2 c = rw (refused_as_lem c.before.before.before.before.before.args.file.now _ _ c.before.before.before.check-file.ensures c.before.answer2.given.1).0
+returns_2 : tie.Need-returns-in-Refused
+returns_2 c = rw (refused_as_lem c.args.file.now _ _ c.check_file-checked.ensures c.in-Refused.is).0
 
 pub find_pool_spec : {M : Type 1} → statement M
 find_pool_spec = tie.close (tie.spec (search rules) (search rules) (search rules) (search rules) returns returns_2)

@@ -4,11 +4,11 @@ use borrow.Author.Rules.{rules}
 use Rattle.check_pool_lookup.proofs.pool_kind.Statement.{statement}
 use Rattle.check_pool_lookup.proofs.pool_kind.Tie as tie
 
-returns : tie.Need-returns
-returns c = rw (kind_found, ← c.before.before.before.find-pool.ensures, c.before.pool.given.1)
+returns : tie.Need-returns-in-Entry
+returns c = rw (kind_found, ← c.find_pool.ensures, c.in-Entry.is)
 
-returns_2 : tie.Need-returns-2
-returns_2 c = rw (kind_found, ← c.before.before.before.find-pool.ensures, c.before.refusal.given.1)
+returns_2 : tie.Need-returns-in-Refused
+returns_2 c = rw (kind_found, ← c.find_pool.ensures, c.in-Refused.is)
 
 pub pool_kind_spec : {M : Type 1} → statement M
 pool_kind_spec = tie.close (tie.spec (search rules) (search rules) (search rules) returns returns_2)

@@ -4,11 +4,11 @@ use borrow.Author.Rules.{rules}
 use Rattle.check_pool_lookup.proofs.pool_payload.Statement.{statement}
 use Rattle.check_pool_lookup.proofs.pool_payload.Tie as tie
 
-returns : tie.Need-returns
-returns c = rw (payload_found, ← c.before.before.before.before.before.before.find-pool.ensures, c.before.before.before.before.pool.given.1) c.part.ensures
+returns : tie.Need-returns-in-Entry
+returns c = rw (payload_found, ← c.find_pool.ensures, c.in-Entry.is) c.part.ensures
 
-returns_2 : tie.Need-returns-2
-returns_2 c = rw (payload_found, ← c.before.before.before.find-pool.ensures, c.before.enum_told.given.1)
+returns_2 : tie.Need-returns-in-Refused
+returns_2 c = rw (payload_found, ← c.find_pool.ensures, c.in-Refused.is)
 
 pub pool_payload_spec : {M : Type 1} → statement M
 pool_payload_spec =

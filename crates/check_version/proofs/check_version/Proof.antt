@@ -8,28 +8,23 @@ use Rattle.check_version.proofs.Answers.{version_other, version_found, version_n
 use Rattle.check_version.proofs.check_version.Statement.{statement}
 use Rattle.check_version.proofs.check_version.Tie as tie
 
-returns : tie.Need-returns
+returns : tie.Need-returns-then-header-version
 returns c =
-    let found = c.before.before.before in
-    let check = found.before.before in
-    let a = check.before.before.args in
-    let is = accepted_as_lem a.file.now _ _ _ check.check-file.ensures found.answer.given.1 in
-    sym (version_other a.version a.file.now is.stream is.reads (λ e. c.if1.true (ap (λ (h : Header). h.version) is.header_is ∙ e)))
+    let a = c.args in
+    let is = accepted_as_lem a.file.now _ _ _ c.check_file-checked.ensures c.in-Accepted.is in
+    sym (version_other a.version a.file.now is.stream is.reads (λ e. c.if-header-version.true (ap (λ (h : Header). h.version) is.header_is ∙ e)))
 
-returns_2 : tie.Need-returns-2
+returns_2 : tie.Need-returns-else-header-version
 returns_2 c =
-    let found = c.before.before.before in
-    let check = found.before.before in
-    let a = check.before.before.args in
-    let is = accepted_as_lem a.file.now _ _ _ check.check-file.ensures found.answer.given.1 in
-    let version = sym (ap (λ (h : Header). h.version) is.header_is) ∙ c.if1.false in
+    let a = c.args in
+    let is = accepted_as_lem a.file.now _ _ _ c.check_file-checked.ensures c.in-Accepted.is in
+    let version = sym (ap (λ (h : Header). h.version) is.header_is) ∙ c.if-header-version.false in
     ap ok is.header_is ∙ sym (version_found a.version a.file.now is.stream is.reads version)
 
-returns_3 : tie.Need-returns-3
+returns_3 : tie.Need-returns-in-Refused
 returns_3 c =
-    let check = c.before.before.before in
-    let a = check.before.before.args in
-    let is = refused_as_lem a.file.now _ _ check.check-file.ensures c.before.answer2.given.1 in
+    let a = c.args in
+    let is = refused_as_lem a.file.now _ _ c.check_file-checked.ensures c.in-Refused.is in
     sym (version_none a.version a.file.now _ _ is.0)
 
 pub check_version_spec : {M : Type 1} → statement M

@@ -1,18 +1,17 @@
 -- `compare_accepted::agree_by` meets its contract: each test that fails ends it with false, in the rule's order.
 use borrow.Author.Rules.{rules}
 use mathlib.Core.Path.{◌≡◌, sym, ◌∙◌}
-use mathlib.Core.Bool.{Bool, true, false, not}
-use borrow.Author.Tests.{not-true, not-false}
+use mathlib.Core.Bool.{Bool, true, false}
 use Rattle.compare_accepted.specs.Accepted.{agree_by}
 use Rattle.compare_accepted.proofs.agree_by.Statement.{statement}
 use Rattle.compare_accepted.proofs.agree_by.Tie as tie
 
--- what a callee's answer, negated and tested, says of the definition that it is
-holds : {answer is : Bool} → answer ≡ is → not answer ≡ false → is ≡ true
-holds e test = sym e ∙ not-false _ test
+-- what a callee's answer says of the definition that it is
+holds : {answer is : Bool} → answer ≡ is → answer ≡ true → is ≡ true
+holds e test = sym e ∙ test
 
-fails : {answer is : Bool} → answer ≡ is → not answer ≡ true → is ≡ false
-fails e test = sym e ∙ not-true _ test
+fails : {answer is : Bool} → answer ≡ is → answer ≡ false → is ≡ false
+fails e test = sym e ∙ test
 
 returns : tie.Need-returns-then-not-same_bool
 unfolding agree_by

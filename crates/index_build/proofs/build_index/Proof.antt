@@ -11,29 +11,25 @@ use Rattle.index_build.proofs.Answers.{refuses, same_into, not_read, built_into_
 use Rattle.index_build.proofs.build_index.Statement.{statement}
 use Rattle.index_build.proofs.build_index.Tie as tie
 
-build_accepted_requires : tie.Need-build-accepted-requires
+build_accepted_requires : tie.Need-build_accepted-requires
 build_accepted_requires c κs =
-    let t = c.before.before.before.before in
-    let a = t.before.before.before.args in
-    let found = accepted_as_lem a.file.now _ _ _ t.check-file.ensures c.before.before.answer.given.1 in
+    let a = c.args in
+    let found = accepted_as_lem a.file.now _ _ _ c.check_file-checked.ensures c.in-Accepted.is in
     let acc = (accepted a.file.now found.stream found.reads).0 in
     omega (arith, ap (λ (h : Header). h.frame_start) found.header_is, acc.first_within, acc.size, acc.small)
 
-returns : tie.Need-returns
+returns : tie.Need-returns-in-Accepted
 returns c =
-    let b = c.before.before in
-    let t = b.before.before.before.before.before in
-    let a = t.before.before.before.args in
-    let found = accepted_as_lem a.file.now _ _ _ t.check-file.ensures b.before.before.before.answer.given.1 in
+    let a = c.args in
+    let found = accepted_as_lem a.file.now _ _ _ c.check_file-checked.ensures c.in-Accepted.is in
     let room = length a.buffer.now in
     let own = ap (λ (h : Header). built_into h a.file.now room) found.header_is in
-    same_into _ a.buffer.now _ (own ∙ built_into_lem a.file.now found.stream found.reads room) b.build-accepted.ensures
+    same_into _ a.buffer.now _ (own ∙ built_into_lem a.file.now found.stream found.reads room) c.build_accepted.ensures
 
-returns_2 : tie.Need-returns-2
+returns_2 : tie.Need-returns-in-Refused
 returns_2 c =
-    let t = c.before.before.before in
-    let a = t.before.before.before.args in
-    let found = (refused_as_lem a.file.now _ _ t.check-file.ensures c.before.answer2.given.1).0 in
+    let a = c.args in
+    let found = (refused_as_lem a.file.now _ _ c.check_file-checked.ensures c.in-Refused.is).0 in
     refuses a.buffer.now _ _ (not_read a.file.now (length a.buffer.now) _ _ found)
 
 pub build_index_spec : {M : Type 1} → statement M

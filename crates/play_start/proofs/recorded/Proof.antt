@@ -4,7 +4,7 @@ use Rattle.play_start.proofs.recorded.Statement.{statement}
 use Rattle.play_start.proofs.recorded.Tie as tie
 
 returns : tie.Need-returns
-returns c = simp (← c.unplayed.ensures)
+returns c = simp (← c.unplayed-progress.ensures)
 
 pub recorded_spec : {M : Type 1} → statement M
 recorded_spec = tie.close (tie.spec (search rules) returns)
