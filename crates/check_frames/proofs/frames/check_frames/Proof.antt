@@ -116,10 +116,10 @@ loop_again c =
     let s = f.args in
     let run = f.frame_run-run.result in
     elim c.if-run-eq0.branch [
-      then-run-eq0 w ↦ rw (w.at-is, w.seen-is, step f, w.if-run-eq0.true, walk_end run.si22 (setting_of s.file.now s.header s.cards) s.file.now (length s.file.now) run.at, c.either-seen.ensures)
-    | else-run-eq0+in-End w ↦
-        rw (w.at-is, w.seen-is, slow f w.check_operations.result w.check_operations.ensures, w.in-End.is, w.either-seen-in-End.ensures, c.either-seen.ensures)
-        (ap (frames_said _ _ _ _) (sym (or_assoc f.loop-left.seen run.si22 w.in-End.si22)))
+      | then-run-eq0 w ↦ rw (w.at-is, w.seen-is, step f, w.if-run-eq0.true, walk_end run.si22 (setting_of s.file.now s.header s.cards) s.file.now (length s.file.now) run.at, c.either-seen.ensures)
+      | else-run-eq0+in-End w ↦
+          rw (w.at-is, w.seen-is, slow f w.check_operations.result w.check_operations.ensures, w.in-End.is, w.either-seen-in-End.ensures, c.either-seen.ensures)
+          (ap (frames_said _ _ _ _) (sym (or_assoc f.loop-left.seen run.si22 w.in-End.si22)))
     ]
 
 returns_3 : tie.Need-returns invariant_loop decreases_loop
