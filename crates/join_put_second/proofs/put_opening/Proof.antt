@@ -10,33 +10,25 @@ use Rattle.join_put_second.proofs.Second.{in_order_lem, opening_is}
 use Rattle.join_put_second.proofs.put_opening.Statement.{statement}
 use Rattle.join_put_second.proofs.put_opening.Tie as tie
 
-sub_copy_part : tie.Need-overflow-sub-copy-part
+sub_copy_part : tie.Need-overflow_sub-header
 sub_copy_part c =
-    let k = c.before.before.before in
-    let s = k.before in
-    omega (arith, (in_order_lem s.requires (λ i. (k.shared-slice-known.given i).fits)).0)
+    omega (arith, (in_order_lem c.requires (λ i. (c.shared_slice_known-1.given i).fits)).0)
 
-copy_part_requires : tie.Need-copy-part-requires
+copy_part_requires : tie.Need-copy_part-requires
 copy_part_requires c κs =
-    let k = c.before.before.before.before in
-    let s = k.before in
-    let order = in_order_lem s.requires (λ i. (k.shared-slice-known.given i).fits) in
-    (omega (arith, order.0, order.1), omega (arith, order.0, order.1, s.requires.fits))
+    let order = in_order_lem c.requires (λ i. (c.shared_slice_known-1.given i).fits) in
+    (omega (arith, order.0, order.1), omega (arith, order.0, order.1, c.requires.fits))
 
 returns : tie.Need-returns
 returns c =
-    let t = c.before.before in
-    let u = t.before.before.before.before in
-    let k = u.before.before.before.before.before in
-    let s = k.before in
-    let a = s.args in
+    let a = c.args in
     let file = a.file.now in
-    let bytes : AllBytes file = λ i. (k.shared-slice-known.given i).fits in
-    let h = has 2 file a.header s.requires.here in
-    let order = in_order_lem s.requires bytes in
-    t.renumber-items.ensures.0
-    ∙ ap (items_renumbered a.before (a.shift + 2) file a.header.initial_count a.header.initial_start) u.copy-part.ensures
-    ∙ opening_is file a.header bytes h a.before (a.shift + 2) a.buffer.now (omega (arith, order.1, s.requires.fits))
+    let bytes : AllBytes file = λ i. (c.shared_slice_known-1.given i).fits in
+    let h = has 2 file a.header c.requires.here in
+    let order = in_order_lem c.requires bytes in
+    c.renumber_items.ensures.0
+    ∙ ap (items_renumbered a.before (a.shift + 2) file a.header.initial_count a.header.initial_start) c.copy_part.ensures
+    ∙ opening_is file a.header bytes h a.before (a.shift + 2) a.buffer.now (omega (arith, order.1, c.requires.fits))
 
 pub put_opening_spec : {M : Type 1} → statement M
 put_opening_spec = tie.close (tie.spec (search rules) (search rules) sub_copy_part (search rules) copy_part_requires (search rules) (search rules) returns)

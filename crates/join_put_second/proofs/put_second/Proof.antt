@@ -22,40 +22,33 @@ count_fits : {file : List ℕ} {header : Header} {before room shift : ℕ} → S
     → header.initial_count + be 2 file header.frame_start ≤ 65535
 count_fits {file} {header} f bytes = omega (arith, first_count_lem file header bytes (has 2 file header f.here), f.count)
 
-add_count : tie.Need-overflow-add-count
+add_count : tie.Need-overflow_add-count
 add_count c =
-    let k = c.before.before.before in
-    omega (arith, count_fits k.before.requires (λ i. (k.shared-slice-known.given i).fits), c.before.read-u16.ensures)
+    omega (arith, count_fits c.requires (λ i. (c.shared_slice_known-1.given i).fits), c.read_u16-frame.ensures)
 
-cast_put_count_2 : tie.Need-overflow-cast-put-count-2
+cast_put_count_2 : tie.Need-overflow_cast-count
 cast_put_count_2 c =
-    let k = c.before.before.before.before.before in
-    omega (arith, count_fits k.before.requires (λ i. (k.shared-slice-known.given i).fits), c.before.before.before.read-u16.ensures)
+    omega (arith, count_fits c.requires (λ i. (c.shared_slice_known-1.given i).fits), c.read_u16-frame.ensures)
 
-put_opening_requires : tie.Need-put-opening-requires
+put_opening_requires : tie.Need-put_opening-requires
 put_opening_requires c κs =
-    let p = c.before.before.before.before.before.before.before.before.before.before.requires in
+    let p = c.requires in
     record { here = p.here; count = p.count; few = p.few; near = p.near; fits = omega (arith, p.fits) }
 
-put_behind_requires : tie.Need-put-behind-requires
+put_behind_requires : tie.Need-put_behind-requires
 put_behind_requires c κs =
-    let p = c.before.before.before.before.before.before.before.before.before.before.before.before.before.before.requires in
+    let p = c.requires in
     record { here = p.here; count = p.count; few = p.few; near = p.near; fits = omega (arith, p.fits) }
 
 returns : tie.Need-returns
 returns c =
-    let t = c.before.before in
-    let u = t.before.before.before.before in
-    let v = u.before.before.before.before in
-    let k = v.before.before.before.before.before.before in
-    let s = k.before in
-    let a = s.args in
+    let a = c.args in
     let file = a.file.now in
     let header = a.header in
     let buffer = a.buffer.now in
-    let bytes : AllBytes file = λ i. (k.shared-slice-known.given i).fits in
-    let h = has 2 file header s.requires.here in
-    let order = in_order_lem s.requires bytes in
+    let bytes : AllBytes file = λ i. (c.shared_slice_known-1.given i).fits in
+    let h = has 2 file header c.requires.here in
+    let order = in_order_lem c.requires bytes in
     let place = header.initial_start + a.shift in
     let count = header.initial_count + be 2 file header.frame_start in
     let opening = opening_run file a.before in
@@ -65,11 +58,11 @@ returns c =
     let parts = second_parts file header bytes h a.before in
     let size : length (second_bytes file a.before) ≡ 2 + (length opening + length behind) =
     ap length parts ∙ length-append (count_bytes count) (opening ++ behind) ∙ (λ i. fields_size_lem (u16 count ∷ []) i + length-append opening behind i) in
-    let counted = v.put_count.ensures ∙ ap (λ (n : ℕ). put (count_bytes (header.initial_count + n)) place buffer) v.before.before.before.before.read-u16.ensures in
-    let w₀ = starts (second_bytes file a.before) place buffer (omega (arith, size, long, all, s.requires.fits)) in
+    let counted = c.put_count.ensures ∙ ap (λ (n : ℕ). put (count_bytes (header.initial_count + n)) place buffer) c.read_u16-frame.ensures in
+    let w₀ = starts (second_bytes file a.before) place buffer (omega (arith, size, long, all, c.requires.fits)) in
     let w₁ = wrote w₀ (count_bytes count) (opening ++ behind) 2 {place' = header.initial_start + (a.shift + 2)} parts (fields_size_lem (u16 count ∷ [])) (omega arith) counted in
-    let w₂ = wrote w₁ opening behind (length opening) {place' = header.frame_start + 2 + a.shift} refl refl (omega (arith, long)) u.put-opening.ensures in
-    let done = wrote w₂ behind [] (length behind) {place' = header.frame_start + 2 + a.shift + length behind} (sym (append-nil behind)) refl refl t.put-behind.ensures in
+    let w₂ = wrote w₁ opening behind (length opening) {place' = header.frame_start + 2 + a.shift} refl refl (omega (arith, long)) c.put_opening.ensures in
+    let done = wrote w₂ behind [] (length behind) {place' = header.frame_start + 2 + a.shift + length behind} (sym (append-nil behind)) refl refl c.put_behind.ensures in
     (ends done refl).0
 
 pub put_second_spec : {M : Type 1} → statement M

@@ -9,23 +9,20 @@ use Rattle.play_plan_jump.proofs.By.{planned_accepted, planned_refused}
 use Rattle.play_plan_jump.proofs.plan_jump.Statement.{statement}
 use Rattle.play_plan_jump.proofs.plan_jump.Tie as tie
 
-returns : tie.Need-returns
+returns : tie.Need-returns-in-Allowed
 returns c =
-    let started = c.before.before.before.before in
-    let known = started.before in
-    let a = known.before.before.args in
-    let bytes : AllBytes a.index.now = λ i. (known.shared-slice-known2.given i).fits in
-    let allowed = ap verdict_of (sym c.before.enum_told.given.1) ∙ started.start.ensures.0 in
-    c.plan-by.ensures
-    ∙ ap (λ (r : StreamPlayer). jump_told a.state (jumped_by a.state r a.file.now a.index.now a.frame)) started.start.ensures.1
+    let a = c.args in
+    let bytes : AllBytes a.index.now = λ i. (c.shared_slice_known-2-1.given i).fits in
+    let allowed = ap verdict_of (sym c.in-Allowed.is) ∙ c.start-started.ensures.0 in
+    c.plan_by.ensures
+    ∙ ap (λ (r : StreamPlayer). jump_told a.state (jumped_by a.state r a.file.now a.index.now a.frame)) c.start-started.ensures.1
     ∙ ap (jump_told a.state) (planned_accepted a.state a.file.now a.index.now a.frame bytes allowed)
 
-returns_2 : tie.Need-returns-2
+returns_2 : tie.Need-returns-in-Refused
 returns_2 c =
-    let started = c.before.before.before.before.before in
-    let a = started.before.before.before.args in
-    let refused = ap verdict_of (sym c.before.before.verdict.given.1) ∙ started.start.ensures.0 in
-    c.refused-jump.ensures ∙ ap (jump_told a.state) (planned_refused a.state a.file.now a.index.now a.frame _ _ refused)
+    let a = c.args in
+    let refused = ap verdict_of (sym c.in-Refused.is) ∙ c.start-started.ensures.0 in
+    c.refused_jump.ensures ∙ ap (jump_told a.state) (planned_refused a.state a.file.now a.index.now a.frame _ _ refused)
 
 pub plan_jump_spec : {M : Type 1} → statement M
 plan_jump_spec = tie.close (tie.spec (search rules) (search rules) (search rules) (search rules) (search rules) returns returns_2)

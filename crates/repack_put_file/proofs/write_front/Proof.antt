@@ -18,48 +18,43 @@ use Rattle.repack_layout.proofs.Numbers.{directory_long, header_long, new_versio
 use Rattle.repack_put_file.proofs.write_front.Statement.{statement}
 use Rattle.repack_put_file.proofs.write_front.Tie as tie
 
-new_header_requires : tie.Need-new-header-requires
+new_header_requires : tie.Need-new_header-requires
 new_header_requires c κs =
-    let p = c.before.before.before.before.requires in
+    let p = c.requires in
     (p.small, omega arith, p.few, p.less)
 
-put_header_requires : tie.Need-put-header-requires
+put_header_requires : tie.Need-put_header-requires
 put_header_requires c κs =
-    let p = c.before.before.before.before.before.requires in
-    let a = c.before.before.before.before.before.args in
+    let p = c.requires in
+    let a = c.args in
     let says = new_version a.header a.layout in
-    rw c.new-header.ensures (omega (arith, says.1), omega (arith, says.0), omega (arith, says.0), rw says.2 (omega arith))
+    rw c.new_header.ensures (omega (arith, says.1), omega (arith, says.0), omega (arith, says.0), rw says.2 (omega arith))
 
-put_directory_requires : tie.Need-put-directory-requires
+put_directory_requires : tie.Need-put_directory-requires
 put_directory_requires c κs =
-    let p = c.before.before.before.before.before.before.before.before.before.requires in
-    let a = c.before.before.before.before.before.before.before.before.before.args in
+    let p = c.requires in
+    let a = c.args in
     (omega (arith, directory_long a.pcm a.waves a.layout.payloads), p.waves_inside.0, omega arith)
 
-put_pcm_requires : tie.Need-put-pcm-requires
+put_pcm_requires : tie.Need-put_pcm-requires
 put_pcm_requires c κs =
-    let p = c.before.before.before.before.before.before.before.before.before.before.before.before.before.requires in
+    let p = c.requires in
     (p.records_fit, omega (arith, p.pcm_is))
 
-add_put_waves : tie.Need-overflow-add-put-waves
+add_put_waves : tie.Need-overflow_add-payloads
 add_put_waves c =
-    let p = c.before.before.before.before.before.before.before.before.before.before.before.before.before.before.before.before.before.requires in
+    let p = c.requires in
     omega arith
 
-put_waves_requires : tie.Need-put-waves-requires
+put_waves_requires : tie.Need-put_waves-requires
 put_waves_requires c κs =
-    let p = c.before.before.before.before.before.before.before.before.before.before.before.before.before.before.before.before.before.requires in
+    let p = c.requires in
     (p.waves_inside, omega arith)
 
 returns : tie.Need-returns
 returns c =
-    let t = c.before.before.before.before.before.before in
-    let u = t.before.before.before.before in
-    let v = u.before.before.before.before in
-    let y = v.before in
-    let s = y.before.before.before.before.before in
-    let a = s.args in
-    let p = s.requires in
+    let a = c.args in
+    let p = c.requires in
     let file = a.file.now in
     let places = a.places.now in
     let h = bytes_of_all (header_fields (new_header a.header a.layout)) in
@@ -67,12 +62,12 @@ returns c =
     let b = pcm_bytes file a.header.initial_count 20 in
     let w = waves_bytes file places 0 a.waves in
     let long = front_size p in
-    let header-puts = v.put-header.ensures ∙ ap (λ (x : Header). put (bytes_of_all (header_fields x)) 0 a.buffer.now) y.new-header.ensures in
+    let header-puts = c.put_header.ensures ∙ ap (λ (x : Header). put (bytes_of_all (header_fields x)) 0 a.buffer.now) c.new_header.ensures in
     let w₀ = starts (front_of file a.header a.pcm a.waves a.layout places) 0 a.buffer.now (omega arith) in
     let w₁ = wrote w₀ h (d ++ (b ++ w)) 40 {place' = 40} (front_is p) (header_long a.header a.layout) refl header-puts in
-    let w₂ = wrote w₁ d (b ++ w) (length d) {place' = a.layout.payloads} refl refl (omega (arith, p.payloads_at, directory_long a.pcm a.waves a.layout.payloads)) u.put-directory.ensures in
-    let w₃ = wrote w₂ b w a.pcm refl p.pcm_is refl t.put-pcm.ensures in
-    let done = wrote w₃ w [] (length w) {place' = a.layout.payloads + a.pcm + length w} (sym (append-nil w)) refl refl c.before.before.put-waves.ensures in
+    let w₂ = wrote w₁ d (b ++ w) (length d) {place' = a.layout.payloads} refl refl (omega (arith, p.payloads_at, directory_long a.pcm a.waves a.layout.payloads)) c.put_directory.ensures in
+    let w₃ = wrote w₂ b w a.pcm refl p.pcm_is refl c.put_pcm.ensures in
+    let done = wrote w₃ w [] (length w) {place' = a.layout.payloads + a.pcm + length w} (sym (append-nil w)) refl refl c.put_waves.ensures in
     (ends done refl).0
 
 pub write_front_spec : {M : Type 1} → statement M

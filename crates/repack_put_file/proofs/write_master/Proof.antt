@@ -19,42 +19,38 @@ use Rattle.repack_layout.proofs.Numbers.{front_size}
 use Rattle.repack_put_file.proofs.write_master.Statement.{statement}
 use Rattle.repack_put_file.proofs.write_master.Tie as tie
 
-mul_start : tie.Need-overflow-mul-start
-mul_start c = omega (arith, c.before.before.before.before.requires.0.opening_fits)
+mul_start : tie.Need-overflow_mul-start
+mul_start c = omega (arith, c.requires.0.opening_fits)
 
-add_start : tie.Need-overflow-add-start
-add_start c = omega (arith, c.before.before.before.before.requires.0.opening_fits)
+add_start : tie.Need-overflow_add-start
+add_start c = omega (arith, c.requires.0.opening_fits)
 
-write_front_requires : tie.Need-write-front-requires
+write_front_requires : tie.Need-write_front-requires
 write_front_requires c κs =
-    let a = c.before.before.before.before.before.args in
-    let p = c.before.before.before.before.before.requires in
+    let a = c.args in
+    let p = c.requires in
     front_fits p.0 p.1 a.buffer.now p.2 p.3
 
-put_opening_requires : tie.Need-put-opening-requires
+put_opening_requires : tie.Need-put_opening-requires
 put_opening_requires c κs =
-    let a = c.before.before.before.before.before.before.before.before.before.args in
-    let p = c.before.before.before.before.before.before.before.before.before.requires in
+    let a = c.args in
+    let p = c.requires in
     let ends_at = frames_at_lem p.0 p.1 in
     let all-at = total_at p.0 p.1 in
     (p.0.opening_fits, omega arith, omega (arith, pcm_few p.0))
 
-put_frames_requires : tie.Need-put-frames-requires
+put_frames_requires : tie.Need-put_frames-requires
 put_frames_requires c κs =
-    let a = c.before.before.before.before.before.before.before.before.before.before.before.before.before.before.args in
-    let p = c.before.before.before.before.before.before.before.before.before.before.before.before.before.before.requires in
+    let a = c.args in
+    let p = c.requires in
     let all-at = total_at p.0 p.1 in
-    let pool = c.before.pcm-pool.ensures in
+    let pool = c.pcm_pool.ensures in
     (lists p.0, marked p.0, p.0.frames_fit, pool.1, rw (pool.0, frames_are p.0 (pcm_pool a.pcm)) (omega arith))
 
 returns : tie.Need-returns
 returns c =
-    let t = c.before.before.before.before in
-    let u = t.before.before.before in
-    let v = u.before.before.before.before in
-    let s = v.before.before.before.before.before.before in
-    let a = s.args in
-    let p = s.requires in
+    let a = c.args in
+    let p = c.requires in
     let file = a.file.now in
     let places = a.places.now in
     let f = front_of file a.header a.pcm a.found.waves a.layout places in
@@ -65,9 +61,9 @@ returns c =
     let fits = front_fits p.0 p.1 a.buffer.now p.2 p.3 in
     let opens = front_size fits in
     let w₀ = starts (written (repacked (master_of file a.header))) 0 a.buffer.now (omega arith) in
-    let w₁ = wrote w₀ f (o ++ r) (length f) {place' = a.layout.opening} parts refl (omega arith) v.write-front.ensures in
-    let w₂ = wrote w₁ o r (length o) {place' = a.layout.frames} refl refl (frames_at_lem p.0 p.1) u.put-opening.ensures in
-    let done = wrote w₂ r [] (length r) {place' = a.layout.frames + length r} (sym (append-nil r)) refl refl (rw (t.pcm-pool.ensures.0, frames_are p.0 (pcm_pool a.pcm)) at c.before.before.put-frames.ensures) in
+    let w₁ = wrote w₀ f (o ++ r) (length f) {place' = a.layout.opening} parts refl (omega arith) c.write_front.ensures in
+    let w₂ = wrote w₁ o r (length o) {place' = a.layout.frames} refl refl (frames_at_lem p.0 p.1) c.put_opening.ensures in
+    let done = wrote w₂ r [] (length r) {place' = a.layout.frames + length r} (sym (append-nil r)) refl refl (rw (c.pcm_pool.ensures.0, frames_are p.0 (pcm_pool a.pcm)) at c.put_frames.ensures) in
     (ends done refl).0
 
 pub write_master_spec : {M : Type 1} → statement M

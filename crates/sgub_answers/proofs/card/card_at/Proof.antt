@@ -9,17 +9,15 @@ use Rattle.sgub_answers.proofs.Cards.{get_d_any}
 use Rattle.sgub_answers.proofs.card.card_at.Statement.{statement}
 use Rattle.sgub_answers.proofs.card.card_at.Tie as tie
 
-returns : tie.Need-returns
+returns : tie.Need-returns-then-index-lt8
 returns c =
-    let s = c.before.before in
-    let t = s.args.t1 in
-    get_d_any t.cards s.args.index _ _ (omega (arith, eight t _ s.well-formed.0))
+    let t = c.args.table in
+    get_d_any t.cards c.args.index _ _ (omega (arith, eight t _ c.well_formed.0))
 
-returns_2 : tie.Need-returns-2
+returns_2 : tie.Need-returns
 returns_2 c =
-    let s = c.before.before in
-    let t = s.args.t1 in
-    c.no-card.ensures ∙ sym (get_or-eq_default t.cards no_card (omega (arith, eight t _ s.well-formed.0)))
+    let t = c.args.table in
+    c.no_card.ensures ∙ sym (get_or-eq_default t.cards no_card (omega (arith, eight t _ c.well_formed.0)))
 
 pub card_at_spec : {M : Type 1} → statement M
 card_at_spec = tie.close (tie.spec (search rules) (search rules) returns (search rules) returns_2)

@@ -6,5 +6,5 @@ use Rattle.sgub_answers.proofs.pool.pool_of.Tie as tie
 pub pool_of_spec : {M : Type 1} → statement M
 pool_of_spec =
     tie.close
-    (tie.spec (search rules) (search rules) (search rules) (search rules) (search rules) (λ c. simp c.before.before.before.found.given.1)
-    (λ c. rw c.number.ensures (simp c.before.before.found2.given.1)))
+    (tie.spec (search rules) (search rules) (search rules) (search rules) (search rules) (λ c. simp c.in-Entry.is)
+    (λ c. rw c.number.ensures (simp c.in-Refused.is)))
