@@ -1,10 +1,9 @@
 -- `play_jump::jump_to_frame` meets its contract: what the plan tells, and the state behind it, are the jump's.
-use Rattle.base_format.specs.Jump.{jumped, jump_said}
+use Rattle.base_format.specs.Jump.{jumped}
 use Rattle.play_jump.proofs.Calls.{told_is, state_is}
 use Rattle.play_jump.proofs.jump_to_frame.Goals as goal
 
 pub returns : goal.returns
-unfolding jump_said
 returns c =
     let s = c.args.state.now in
     let answer = jumped s c.args.file.now c.args.index.now c.args.frame in

@@ -4,4 +4,4 @@ use Rattle.sgub_player.proofs.source_of.Statement.{statement}
 use Rattle.sgub_player.proofs.source_of.Tie as tie
 
 pub source_of_spec : {M : Type 1} → statement M
-source_of_spec = tie.close (tie.spec (search rules) (search rules) (λ c. rw c.enum_told.given.1) (λ c. rw c.before.answer.given.1))
+source_of_spec = tie.close (tie.spec (search rules) (search rules) (λ c. rw c.in-None.is) (λ c. rw c.in-Pool.is))

@@ -6,4 +6,4 @@ use Rattle.sgub_player.proofs.started_of.Tie as tie
 pub started_of_spec : {M : Type 1} → statement M
 started_of_spec =
     tie.close
-    (tie.spec (search rules) (search rules) (search rules) (λ c. rw c.enum_told.given.1) (λ c. rw (c.number.ensures, c.before.before.verdict.given.1)))
+    (tie.spec (search rules) (search rules) (search rules) (λ c. rw c.in-Allowed.is) (λ c. rw (c.number.ensures, c.in-Refused.is)))

@@ -6,7 +6,7 @@ use Rattle.sgub_pool_list.proofs.nth_entry.Statement.{statement}
 use Rattle.sgub_pool_list.proofs.nth_entry.Tie as tie
 
 returns : tie.Need-returns
-returns c = ap listed_entry c.read-pool.ensures
+returns c = ap listed_entry c.read_pool-pool.ensures
 
 pub nth_entry_spec : {M : Type 1} → statement M
 nth_entry_spec = tie.close (tie.spec (search rules) (search rules) returns)

@@ -3,11 +3,11 @@ use borrow.Author.Rules.{rules}
 use Rattle.sgub_pool_list.proofs.listing.pool_listing.Statement.{statement}
 use Rattle.sgub_pool_list.proofs.listing.pool_listing.Tie as tie
 
-returns : tie.Need-returns
-returns c = rw (← c.before.before.before.before.check-file.ensures, c.before.before.answer.given.1)
+returns : tie.Need-returns-in-Accepted
+returns c = rw (← c.check_file-checked.ensures, c.in-Accepted.is)
 
-returns_2 : tie.Need-returns-2
-returns_2 c = rw (c.number.ensures, ← c.before.before.before.before.check-file.ensures, c.before.before.answer2.given.1)
+returns_2 : tie.Need-returns-in-Refused
+returns_2 c = rw (c.number.ensures, ← c.check_file-checked.ensures, c.in-Refused.is)
 
 pub pool_listing_spec : {M : Type 1} → statement M
 pool_listing_spec = tie.close (tie.spec (search rules) (search rules) (search rules) (search rules) (search rules) returns returns_2)
