@@ -53,7 +53,7 @@ pub struct FramesLeft {
 }
 
 // Passes empty frames in front of so many, four at a time: a file may have millions of them.
-pub fn pass_empty(file: &[u8], count: u32, start: usize) -> FramesLeft
+pub fn pass_empty_counts(file: &[u8], count: u32, start: usize) -> FramesLeft
     ensures { EmptyPassed file.now count start result.left result.at }
 {
     let limit = smaller(file.len(), FILE_LIMIT as usize);
@@ -75,6 +75,13 @@ pub fn pass_empty(file: &[u8], count: u32, start: usize) -> FramesLeft
     FramesLeft { at, left }
 }
 
+// The same for the walk over frames: what is left ends where all ends.
+fn pass_empty(file: &[u8], version: u8, count: u32, start: usize) -> FramesLeft
+    ensures { frames_walked version file.now count start ≡ frames_walked version file.now result.left result.at }
+{
+    pass_empty_counts(file, count, start)
+}
+
 // Where so many frames end, one after the other.
 fn walk_frames(file: &[u8], version: u8, count: u32, start: usize) -> usize
     ensures { result ≡ frames_walked version file.now count start }
@@ -92,7 +99,7 @@ fn walk_frames(file: &[u8], version: u8, count: u32, start: usize) -> usize
 pub fn frames_end(file: &[u8], version: u8, count: u32, start: usize) -> usize
     ensures { result ≡ frames_walked version file.now count start }
 {
-    let next = pass_empty(file, count, start);
+    let next = pass_empty(file, version, count, start);
     walk_frames(file, version, next.left, next.at)
 }
 

@@ -11,7 +11,7 @@ ghost use Rattle.join_renumber.specs.Renumbered.{item_renumbered, items_renumber
 use base_format::{COUNT_SIZE, FILE_LIMIT};
 use bytes_operation_size::item_size;
 use bytes_read::{put_low_u16, read_u16, smaller};
-use index_frames::pass_empty;
+use index_frames::pass_empty_counts;
 
 // The bytes of an address, and those of opcode, target and address, which stand in front of a COPY's pool.
 const WIDTH: usize = 3;
@@ -74,7 +74,7 @@ pub fn renumber_frames(
     let mut at = start;
     let mut left = count;
     while 0 < left {
-        let next = pass_empty(file, left, at);
+        let next = pass_empty_counts(file, left, at);
         at = next.at;
         left = next.left;
         if left == 0 {

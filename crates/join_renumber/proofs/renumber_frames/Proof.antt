@@ -23,10 +23,10 @@ returns : tie.Need-returns-then-left-eq0 invariant_loop decreases_loop
 returns c =
     let l = c.loop-left in
     let a = c.args in
-    let next = c.pass_empty-next.result in
+    let next = c.pass_empty_counts-next.result in
     sym (
     l.invariant.0
-    ∙ frames_passed a.before a.shift a.file.now l.left l.at next.left next.at l.buffer c.pass_empty-next.ensures
+    ∙ frames_passed a.before a.shift a.file.now l.left l.at next.left next.at l.buffer c.pass_empty_counts-next.ensures
     ∙ ap (λ (n : ℕ). frames_renumbered a.before a.shift a.file.now n next.at l.buffer) c.if-left-eq0.true
     ∙ frames_none a.before a.shift a.file.now next.at l.buffer
     )
@@ -35,11 +35,11 @@ returns_2 : tie.Need-returns-then-limit-at invariant_loop decreases_loop
 returns_2 c =
     let l = c.loop-left in
     let a = c.args in
-    let next = c.pass_empty-next.result in
+    let next = c.pass_empty_counts-next.result in
     let past : walk_limit a.file.now ≤ next.at = omega (arith, c.if-limit-at.true, c.smaller-limit.ensures.0) in
     sym (
     l.invariant.0
-    ∙ frames_passed a.before a.shift a.file.now l.left l.at next.left next.at l.buffer c.pass_empty-next.ensures
+    ∙ frames_passed a.before a.shift a.file.now l.left l.at next.left next.at l.buffer c.pass_empty_counts-next.ensures
     ∙ frames_still a.before a.shift a.file.now next.left next.at l.buffer past
     )
 
@@ -49,14 +49,14 @@ add_first c =
 
 loop_less : tie.Need-loop-left-smaller invariant_loop decreases_loop
 loop_less c =
-    omega (arith, c.pass_empty-next.ensures.most, c.if-left-eq0.false)
+    omega (arith, c.pass_empty_counts-next.ensures.most, c.if-left-eq0.false)
 
 loop_again : tie.Need-loop-left-preserved invariant_loop decreases_loop
 loop_again c =
     let l = c.loop-left in
     let a = c.args in
     let file = a.file.now in
-    let next = c.pass_empty-next.result in
+    let next = c.pass_empty_counts-next.result in
     let less : next.at < walk_limit file = omega (arith, c.if-limit-at.false, c.smaller-limit.ensures.0) in
     let some : 0 < next.left = omega (arith, c.if-left-eq0.false) in
     let first = next.at + 2 in
@@ -65,7 +65,7 @@ loop_again c =
     let puts = did.0 ∙ ap (λ (n : ℕ). items_renumbered a.before a.shift file n first l.buffer) count in
     let ends = did.1 ∙ ap (λ (n : ℕ). items_walked 3 file n first) count in (
       l.invariant.0
-          ∙ frames_passed a.before a.shift file l.left l.at next.left next.at l.buffer c.pass_empty-next.ensures
+          ∙ frames_passed a.before a.shift file l.left l.at next.left next.at l.buffer c.pass_empty_counts-next.ensures
           ∙ frames_step a.before a.shift file next.left next.at l.buffer some less
           ∙ ap₂ (λ (n : ℕ) (b : List ℕ). frames_renumbered a.before a.shift file (next.left - 1) n b) (sym ends) (sym puts),
       ap length puts ∙ items_length a.before a.shift file (be 2 file next.at) first l.buffer ∙ l.invariant.1,

@@ -1,4 +1,4 @@
--- `index_frames::pass_empty` meets its contract. The loop's invariant: what is passed is empty.
+-- `index_frames::pass_empty_counts` meets its contract. The loop's invariant: what is passed is empty.
 use borrow.Author.Rules.{rules}
 use native.Mathlib.Omega.{arith}
 use borrow.Author.Tests.{ltb-false}
@@ -7,8 +7,8 @@ use mathlib.Core.Path.{◌≡◌, sym, ◌∙◌}
 use Rattle.base_format.specs.Bytes.{be}
 use Rattle.index_laws.specs.Frames.{walk_limit, EmptyPassed}
 use Rattle.index_laws.proofs.Empty.{none_passed, four_passed}
-use Rattle.index_frames.proofs.pass_empty.Statement.{statement}
-use Rattle.index_frames.proofs.pass_empty.Tie as tie
+use Rattle.index_frames.proofs.pass_empty_counts.Statement.{statement}
+use Rattle.index_frames.proofs.pass_empty_counts.Tie as tie
 
 abbrev invariant_loop : tie.invariant-loop-left
 invariant_loop file count start limit at₀ left₀ at left = EmptyPassed file count start left at
@@ -51,7 +51,7 @@ loop_again c =
 returns_4 : tie.Need-returns invariant_loop decreases_loop
 returns_4 c = c.loop-left.invariant
 
-pub pass_empty_spec : {M : Type 1} → statement M
-pass_empty_spec =
+pub pass_empty_counts_spec : {M : Type 1} → statement M
+pass_empty_counts_spec =
     tie.close
     (tie.spec invariant_loop decreases_loop (search rules) (search rules) loop_holds (search rules) returns (search rules) returns_2 add_read_u32 (search rules) returns_3 add_at loop_less loop_again returns_4)
