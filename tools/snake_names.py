@@ -143,6 +143,8 @@ def main():
     def turn_names(text, names, where, mark, fields=frozenset()):
         """Every unqualified token of `names`, and own camelCase names anywhere."""
         declares = declared(text)[1] if mark == '--' else set()
+        own_here = declared(text)[0] if mark == '--' else set()
+        anyone = {n for held in members.values() for n in held}
         code = ''.join(part for comment, part in code_and_comments(text, mark) if not comment)
         tokens = set(re.findall(rf'(?<![^\s(){{}};,@«»]){NAME}', code)) if mark == '--' else set(re.findall(r'\w+', text))
         for n in sorted(names):
@@ -169,7 +171,7 @@ def main():
             else:
                 # A field: behind a dot, or in front of `=` or `:` in a record.
                 part = re.sub(rf'(?<=\.){NAME}', lambda m: plain(m[0]) if m[0] in fields else m[0], part)
-                part = re.sub(rf'(?m)(?<=[{{;] )({NAME})(?= = )|(?<=^    )( *)({NAME})(?= =(?: |$))', lambda m: '\x00' + plain(m[1]) if m[1] and m[1] in fields else (m[2] + '\x00' + plain(m[3]) if m[3] and m[3] in fields else m[0]), part)
+                part = re.sub(rf'(?m)(?<=[{{;] )({NAME})(?= = )|(?<=^    )( *)({NAME})(?= =(?: |$))', lambda m: '\x00' + plain(m[1]) if m[1] and (m[1] in fields or m[1] in anyone) else (m[2] + '\x00' + plain(m[3]) if m[3] and (m[3] in fields or m[3] in anyone and m[3] not in own_here) else m[0]), part)
                 if fields & declares:
                     part = re.sub(rf'(?m)^(  (?:pub )?)({NAME})(?= :(?: |$))', lambda m: m[1] + '\x00' + plain(m[2]) if m[2] in fields and m[2] in declares else m[0], part)
                 part = re.sub(rf'(?<![^\s(){{}};,@«»]){NAME}', lambda m: snake(m[0]) if m[0] in names else m[0], part)

@@ -107,7 +107,7 @@ module _ (file file' : List ℕ) (header header' : Header) (both : (version_head
           -- nothing is refused
           pub writable : BothFit file header file' header' room
           writable =
-              record { here = both.0; here' = both.1; first_count_lem = omega (arith, few, said); pool_count = fewer; small = omega (arith, small); fits = omega (arith, fits) }
+              record { here = both.0; here' = both.1; first_count = omega (arith, few, said); pool_count = fewer; small = omega (arith, small); fits = omega (arith, fits) }
 
           abbrev result : List ℕ
           result = written (joined (stream_in file) (stream_in file'))
@@ -126,7 +126,7 @@ module _ (file file' : List ℕ) (header header' : Header) (both : (version_head
                 reads' = h'.reads;
                 two = h.is;
                 two' = h'.is;
-                first_count_lem = few_is;
+                first_count = few_is;
                 pool_count = fewer_are;
                 small = omega (arith, small, long);
                 fits = omega (arith, fits, long);

@@ -7,31 +7,22 @@ use Rattle.repack.proofs.Stages.{other_version, out_of_order}
 use Rattle.repack.proofs.song.repack_accepted.Statement.{statement}
 use Rattle.repack.proofs.song.repack_accepted.Tie as tie
 
-returns : tie.Need-returns
+returns : tie.Need-returns-then-header-ne1
 returns c =
-    let s = c.before.before.before.before.before in
-    refuses s.args.file.now s.args.buffer.now 21 0 c.refused.result (other_version s.requires _ c.before.if1.true) c.refused.ensures
+    refuses c.args.file.now c.args.buffer.now 21 0 c.refused.result (other_version c.requires _ c.if-header-ne1.true) c.refused.ensures
 
-pcm_run_requires : tie.Need-pcm-run-requires
+pcm_run_requires : tie.Need-pcm_run-requires
 pcm_run_requires c κs =
-    let s = c.before.before.before.before.before in
-    (lies s.requires c.before.if1.false).opening_fits
+    (lies c.requires c.if-header-ne1.false).opening_fits
 
-repack_measured_requires : tie.Need-repack-measured-requires
+repack_measured_requires : tie.Need-repack_measured-requires
 repack_measured_requires c κs =
-    let t = c.before.before.before.before in
-    let u = t.before.before in
-    let v = u.before.before.before.before in
-    let s = v in
-    record { taken = s.requires; one = u.if1.false; run = sym t.pcm-run.ensures ∙ ap pcm_in c.before.before.pcm.given.1 }
+    record { taken = c.requires; one = c.if-header-ne1.false; run = sym c.pcm_run.ensures ∙ ap pcm_in c.in-InOrder.is }
 
-returns_3 : tie.Need-returns-3
+returns_3 : tie.Need-returns-in-OutOfOrder
 returns_3 c =
-    let t = c.before.before.before.before.before in
-    let u = t.before.before.before.before in
-    let s = u in
-    refuses s.args.file.now s.args.buffer.now 22 0 c.refused2.result
-    (out_of_order s.requires t.if1.false _ (sym c.before.before.before.pcm-run.ensures ∙ ap pcm_in c.before.enum_told.given.1)) c.refused2.ensures
+    refuses c.args.file.now c.args.buffer.now 22 0 c.refused-in-OutOfOrder.result
+    (out_of_order c.requires c.if-header-ne1.false _ (sym c.pcm_run.ensures ∙ ap pcm_in c.in-OutOfOrder.is)) c.refused-in-OutOfOrder.ensures
 
 pub repack_accepted_spec : {M : Type 1} → statement M
 repack_accepted_spec =

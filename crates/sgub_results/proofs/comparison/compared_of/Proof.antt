@@ -6,5 +6,5 @@ use Rattle.sgub_results.proofs.comparison.compared_of.Tie as tie
 pub compared_of_spec : {M : Type 1} → statement M
 compared_of_spec =
     tie.close
-    (tie.spec (search rules) (search rules) (search rules) (search rules) (search rules) (search rules) (λ c. simp c.enum_told.given.1) (λ c. simp c.enum-told2.given.1)
-    (λ c. simp (c.before.before.comparison.given.1, ← c.refused.ensures)) (λ c. simp (c.before.before.comparison2.given.1, ← c.refused2.ensures)))
+    (tie.spec (search rules) (search rules) (search rules) (search rules) (search rules) (search rules) (λ c. simp c.in-Passed.is) (λ c. simp c.in-Failed.is)
+    (λ c. simp (c.in-MasterRefused.is, ← c.refused.ensures)) (λ c. simp (c.in-OtherRefused.is, ← c.refused-in-OtherRefused.ensures)))

@@ -6,4 +6,4 @@ use Rattle.sgub_results.proofs.indexed.indexed_of.Tie as tie
 pub indexed_of_spec : {M : Type 1} → statement M
 indexed_of_spec =
     tie.close
-    (tie.spec (search rules) (search rules) (search rules) (λ c. simp c.before.answer.given.1) (λ c. rw c.number.ensures (simp c.before.before.answer2.given.1)))
+    (tie.spec (search rules) (search rules) (search rules) (λ c. simp c.in-Built.is) (λ c. rw c.number.ensures (simp c.in-Refused.is)))
