@@ -70,6 +70,9 @@ def declared(text):
             kind = head.group(1)
         elif line and not line[0].isspace() and not line.startswith('--'):
             kind = None
+        listed = kind == 'data' and re.match(rf'  ((?:{NAME} )+{NAME}) : ', line)
+        if listed:
+            names |= set(listed.group(1).split())
         m = DECLARED.match(line)
         if m and not m.group(2).startswith('--'):
             (fields if kind == 'record' and m.group(1) == '  ' else names).add(m.group(2))

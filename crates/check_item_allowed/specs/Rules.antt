@@ -7,12 +7,12 @@ use Rattle.base_targets.specs.declared.Target.{Target}
 use Rattle.base_format.specs.Checked.{Checked, ok, ◌>>◌}
 use Rattle.base_format.specs.Operation.{Item, write_rules, fill_rules, copy_rules}
 
-abbrev pub allowed_at : (version pools : ℕ) → (poolOf : ℕ → Pool) → (at : ℕ) → Target → Operation → Checked (Unit {0})
-allowed_at version pools poolOf at target (Write number address value) = write_rules at target address
-allowed_at version pools poolOf at target (Fill number address size value) = fill_rules at target address size
-allowed_at version pools poolOf at target (Copy number address id source size) = copy_rules at version pools target address id (poolOf id) source size
+abbrev pub allowed_at : (version pools : ℕ) → (pool_of : ℕ → Pool) → (at : ℕ) → Target → Operation → Checked (Unit {0})
+allowed_at version pools pool_of at target (Write number address value) = write_rules at target address
+allowed_at version pools pool_of at target (Fill number address size value) = fill_rules at target address size
+allowed_at version pools pool_of at target (Copy number address id source size) = copy_rules at version pools target address id (pool_of id) source size
 
 -- the operation with the place behind it, if they allow it
-abbrev pub allowed_item : (version pools : ℕ) → (poolOf : ℕ → Pool) → (at : ℕ) → Target → Operation → (next : ℕ) → Checked Item
-allowed_item version pools poolOf at target operation next =
-    allowed_at version pools poolOf at target operation >> ok (record { operation = operation; next = next })
+abbrev pub allowed_item : (version pools : ℕ) → (pool_of : ℕ → Pool) → (at : ℕ) → Target → Operation → (next : ℕ) → Checked Item
+allowed_item version pools pool_of at target operation next =
+    allowed_at version pools pool_of at target operation >> ok (record { operation = operation; next = next })

@@ -15,7 +15,7 @@ use Rattle.bytes_read.specs.Put.{put}
 use Rattle.bytes_read.proofs.Laws.{put_fits}
 use Rattle.check_version.specs.Answer.{version_header}
 use Rattle.check_version.proofs.Answers.{Has, has, gone}
-use Rattle.join_stream.specs.Join.{NamedFile, inFirst, inSecond, inNeither, Joining, join_made, join_refused, join_into, first_count, joined, stream_in, size_made, stored_by}
+use Rattle.join_stream.specs.Join.{NamedFile, in_first, in_second, in_neither, Joining, join_made, join_refused, join_into, first_count, joined, stream_in, size_made, stored_by}
 use Rattle.join_stream.proofs.Join.{joins_exactly, both_size}
 use Rattle.join_stream.proofs.Refused.{refused_first, refused_second, refused_29, refused_30, refused_23, refused_24}
 use Rattle.join_put_second.proofs.Second.{acc, parts, stream_is, first_count_lem}
@@ -29,11 +29,11 @@ pub refuses : (file file' buffer : List ℕ) (answer : Joining ℕ) (named : Nam
 refuses file file' buffer answer named n p e is = (is ∙ ap size_made (sym e), ap (λ (x : Joining (List ℕ)). stored_by x buffer) (sym e))
 
 -- a refused file
-pub first_refused : (file file' : List ℕ) (room n p : ℕ) → version_header 2 file ≡ refused n p → join_into file file' room ≡ join_refused inFirst n p
+pub first_refused : (file file' : List ℕ) (room n p : ℕ) → version_header 2 file ≡ refused n p → join_into file file' room ≡ join_refused in_first n p
 first_refused file file' room n p e = (refused_first file file' room n p).1 (gone 2 file n p e)
 
 pub second_refused : (file file' : List ℕ) (room n p : ℕ) (header : Header) → version_header 2 file ≡ ok header → version_header 2 file' ≡ refused n p
-    → join_into file file' room ≡ join_refused inSecond n p
+    → join_into file file' room ≡ join_refused in_second n p
 second_refused file file' room n p header accepted e =
     let h = has 2 file header accepted in
     (refused_second file file' room n p h.stream h.here).1 (gone 2 file' n p e)
@@ -77,29 +77,29 @@ module _ (file file' : List ℕ) (header header' : Header) (both : (version_head
       omega (arith, o.payloads, o.opening, o.frames, (acc file header bytes h).size, o'.payloads, o'.opening, o'.frames, (acc file' header' bytes' h').size)
 
   -- a refusal of both files together
-  both_refused : (n : ℕ) {answer : Joining ℕ} → join_into file file' room ≡ join_refused inNeither n 0 → answer ≡ join_refused inNeither n 0 → JoinedWith answer file file' buffer buffer
-  both_refused n {answer} e is = refuses file file' buffer answer inNeither n 0 e is
+  both_refused : (n : ℕ) {answer : Joining ℕ} → join_into file file' room ≡ join_refused in_neither n 0 → answer ≡ join_refused in_neither n 0 → JoinedWith answer file file' buffer buffer
+  both_refused n {answer} e is = refuses file file' buffer answer in_neither n 0 e is
 
-  pub by_29 : {answer : Joining ℕ} → 65535 < operations → answer ≡ join_refused inNeither 29 0 → JoinedWith answer file file' buffer buffer
+  pub by_29 : {answer : Joining ℕ} → 65535 < operations → answer ≡ join_refused in_neither 29 0 → JoinedWith answer file file' buffer buffer
   by_29 many = both_refused 29 ((refused_29 file file' room h.stream h'.stream bytes bytes' h.here h'.here).1 (omega (arith, many, operations_are)))
 
   module _ (few : operations ≤ 65535) where
     few_is : first_count h'.stream ≤ 65535
     few_is = omega (arith, few, operations_are)
 
-    pub by_30 : {answer : Joining ℕ} → 65536 < pools → answer ≡ join_refused inNeither 30 0 → JoinedWith answer file file' buffer buffer
+    pub by_30 : {answer : Joining ℕ} → 65536 < pools → answer ≡ join_refused in_neither 30 0 → JoinedWith answer file file' buffer buffer
     by_30 many = both_refused 30 ((refused_30 file file' room h.stream h'.stream bytes bytes' h.here h'.here).1 (few_is, omega (arith, many, pools_are)))
 
     module _ (fewer : pools ≤ 65536) where
       fewer_are : length h.stream.pools + length h'.stream.pools ≤ 65536
       fewer_are = omega (arith, fewer, pools_are)
 
-      pub by_23 : {answer : Joining ℕ} → file_limit < size → answer ≡ join_refused inNeither 23 0 → JoinedWith answer file file' buffer buffer
+      pub by_23 : {answer : Joining ℕ} → file_limit < size → answer ≡ join_refused in_neither 23 0 → JoinedWith answer file file' buffer buffer
       by_23 large =
           both_refused 23 ((refused_23 file file' room h.stream h'.stream bytes bytes' h.here h'.here).1 (few_is, fewer_are, omega (arith, large)))
 
       module _ (small : size ≤ file_limit) where
-        pub by_24 : {answer : Joining ℕ} → room < size → answer ≡ join_refused inNeither 24 0 → JoinedWith answer file file' buffer buffer
+        pub by_24 : {answer : Joining ℕ} → room < size → answer ≡ join_refused in_neither 24 0 → JoinedWith answer file file' buffer buffer
         by_24 short =
             both_refused 24 ((refused_24 file file' room h.stream h'.stream bytes bytes' h.here h'.here).1 (few_is, fewer_are, omega (arith, small), omega (arith, short)))
 

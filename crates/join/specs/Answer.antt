@@ -2,7 +2,7 @@
 use Rattle.std.specs.Prelude.{ℕ, ◌≡◌, List, length}
 use Rattle.base_format.specs.declared.rule.Refusal.{Refusal}
 use Rattle.base_format.specs.Rule.{number_of}
-use Rattle.join_stream.specs.Join.{NamedFile, inFirst, inSecond, inNeither, Joining, join_made, join_refused, join_said, join_after}
+use Rattle.join_stream.specs.Join.{NamedFile, in_first, in_second, in_neither, Joining, join_made, join_refused, join_said, join_after}
 use Rattle.join.specs.declared.Joined.{Joined}
 use Rattle.join.specs.declared.Joined.TheVariants.{Written, First, Second, Neither}
 
@@ -13,9 +13,9 @@ refused_in named r = join_refused named (number_of r.rule) r.place
 -- the length of the result, or the refusal and the file that it names
 abbrev pub joined_of : Joined → Joining ℕ
 joined_of (Written size) = join_made size
-joined_of (First r) = refused_in inFirst r
-joined_of (Second r) = refused_in inSecond r
-joined_of (Neither r) = refused_in inNeither r
+joined_of (First r) = refused_in in_first r
+joined_of (Second r) = refused_in in_second r
+joined_of (Neither r) = refused_in in_neither r
 
 -- the answer on two files, and the lent buffer after it
 abbrev pub JoinedWith : Joining ℕ → (file file' buffer after : List ℕ) → Type 0

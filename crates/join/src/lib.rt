@@ -5,7 +5,7 @@ ghost use Rattle.std.specs.Prelude.{◌≡◌};
 ghost use Rattle.base_format.specs.Checked.{ok};
 ghost use Rattle.base_format.specs.Rule.{number_of};
 ghost use Rattle.check_version.specs.Answer.{version_header};
-ghost use Rattle.join_stream.specs.Join.{join_refused, inNeither};
+ghost use Rattle.join_stream.specs.Join.{join_refused, in_neither};
 ghost use Rattle.join.specs.Answer.{joined_of, JoinedWith};
 
 use base_format::{FILE_LIMIT, Header, POOLED_HEADER_SIZE, Refusal, Rule};
@@ -29,7 +29,7 @@ pub enum Joined {
 
 // A refusal of both files together.
 fn refused(rule: Rule) -> Joined
-    ensures { joined_of result ≡ join_refused inNeither (number_of rule) 0 }
+    ensures { joined_of result ≡ join_refused in_neither (number_of rule) 0 }
 {
     Joined::Neither(Refusal { rule, place: 0 })
 }

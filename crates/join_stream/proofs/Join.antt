@@ -17,7 +17,7 @@ use Rattle.base_format.proofs.Lent.{stored_long}
 use Rattle.base_round_trip.proofs.Rewritten.{accepted}
 use Rattle.base_round_trip.proofs.Whole.{round_trip}
 use Rattle.base_round_trip.proofs.Written.{written_bytes}
-use Rattle.join_stream.specs.Join.{joined, first_count, both_into, NamedFile, inFirst, inSecond, inNeither, Joining, join_made, join_refused, naming, join_into, stored_by, join_after, stream_in}
+use Rattle.join_stream.specs.Join.{joined, first_count, both_into, NamedFile, in_first, in_second, in_neither, Joining, join_made, join_refused, naming, join_into, stored_by, join_after, stream_in}
 use Rattle.join_stream.proofs.Joined.{Joinable, joined_within, joined_size}
 use Rattle.join_stream.proofs.Row.{Tested, Kept, in_row, all_kept}
 use Rattle.join_stream.proofs.VersionTwo.{VersionTwo}
@@ -88,9 +88,9 @@ joins_exactly file file' room bytes = (there, back)
   where
     there : join_into file file' room ≡ join_made bytes → Joins file file' room bytes
     there e =
-        let p = passed inFirst (read_version 2 file) _ bytes e in
-        let q = passed inSecond (read_version 2 file') _ bytes p.then in
-        let r = passed inNeither (both_into p.value q.value room) _ bytes q.then in
+        let p = passed in_first (read_version 2 file) _ bytes e in
+        let q = passed in_second (read_version 2 file') _ bytes p.then in
+        let r = passed in_neither (both_into p.value q.value room) _ bytes q.then in
         let x = version_read 2 file p.value p.is in
         let y = version_read 2 file' q.value q.is in
         let row = sym (tested_in_order p.value q.value room) ∙ r.is ∙ ap ok (made_is r.then) in

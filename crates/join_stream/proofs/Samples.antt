@@ -12,7 +12,7 @@ use Rattle.base_format.specs.Stream.{Stream}
 use Rattle.base_format.specs.Writes.{write, vsync}
 use Rattle.base_format.specs.Written.{written}
 use Rattle.base_format.proofs.Computed.{reading, writing, listing}
-use Rattle.join_stream.specs.Join.{joined, both_into, inFirst, inSecond, inNeither, join_made, join_refused, join_into, join_after}
+use Rattle.join_stream.specs.Join.{joined, both_into, in_first, in_second, in_neither, join_made, join_refused, join_into, join_after}
 
 -- a piece of 80 bytes: one PCM byte copied in the opening, and one frame with one write
 piece : (repeat : Bool) (value : ℕ) → Stream
@@ -48,20 +48,20 @@ unfolding piece both join_into both_into joined read_version reading writing
 two_pieces = (refl, refl)
 
 -- one of 119 is not
-one_short : join_into (written (piece true 7)) (written (piece false 9)) 119 ≡ join_refused inNeither 24 0
+one_short : join_into (written (piece true 7)) (written (piece false 9)) 119 ≡ join_refused in_neither 24 0
 unfolding piece join_into both_into joined read_version reading writing
 one_short = refl
 
 -- the first file's refusals, 21 among them, come before the second's; both name the file, and 24 names none
-first_named : (join_into [] [] 0 ≡ join_refused inFirst 1 0) × (join_into empty [] 0 ≡ join_refused inFirst 21 0)
+first_named : (join_into [] [] 0 ≡ join_refused in_first 1 0) × (join_into empty [] 0 ≡ join_refused in_first 21 0)
 unfolding empty join_into both_into joined read_version reading writing
 first_named = (refl, refl)
 
-second_named : (join_into empty_repacked [] 0 ≡ join_refused inSecond 1 0) × (join_into empty_repacked empty 0 ≡ join_refused inSecond 21 0)
+second_named : (join_into empty_repacked [] 0 ≡ join_refused in_second 1 0) × (join_into empty_repacked empty 0 ≡ join_refused in_second 21 0)
 unfolding empty empty_repacked join_into both_into joined read_version reading writing
 second_named = (refl, refl)
 
-none_named : join_into empty_repacked empty_repacked 0 ≡ join_refused inNeither 24 0
+none_named : join_into empty_repacked empty_repacked 0 ≡ join_refused in_neither 24 0
 unfolding empty_repacked join_into both_into joined read_version reading writing
 none_named = refl
 

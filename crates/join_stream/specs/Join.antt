@@ -52,7 +52,7 @@ both_into a b room = do
 
 -- the file that a refusal names
 pub data NamedFile : Type 0 where
-  inFirst inSecond inNeither : NamedFile
+  in_first in_second in_neither : NamedFile
 
 -- joining's answer: what is made, or a refusal
 pub data Joining (A : Type 0) : Type 0 where
@@ -67,9 +67,9 @@ naming named (refused number place) next = join_refused named number place
 -- the joined file's bytes; or a refusal, "after the first file's checks and 21 and then the second's, for which alone the answer names the file"
 unfoldable pub join_into : (file file' : List ℕ) → (room : ℕ) → Joining (List ℕ)
 join_into file file' room =
-    naming inFirst (read_version 2 file) λ a.
-    naming inSecond (read_version 2 file') λ b.
-    naming inNeither (both_into a b room) λ bytes.
+    naming in_first (read_version 2 file) λ a.
+    naming in_second (read_version 2 file') λ b.
+    naming in_neither (both_into a b room) λ bytes.
     join_made bytes
 
 -- what the call says: how many bytes are made

@@ -2,14 +2,14 @@
 use Rattle.std.specs.Prelude.{ℕ}
 use Rattle.base_format.specs.declared.rule.Refusal.{Refusal}
 use Rattle.base_format.specs.Rule.{number_of}
-use Rattle.join_stream.specs.Join.{NamedFile, inFirst, inSecond, inNeither, Joining, join_made, join_refused}
+use Rattle.join_stream.specs.Join.{NamedFile, in_first, in_second, in_neither, Joining, join_made, join_refused}
 use Rattle.sgub_join.specs.declared.SgubJoined.{SgubJoined}
 
 -- the file that is named: 1 for the first and 2 for the second, and 0 for none
 abbrev pub file_number : NamedFile → ℕ
-file_number inFirst = 1
-file_number inSecond = 2
-file_number inNeither = 0
+file_number in_first = 1
+file_number in_second = 2
+file_number in_neither = 0
 
 abbrev pub joined_on : Joining ℕ → SgubJoined
 joined_on (join_made size) = record { file = 0; number = 0; place = 0; size = size }

@@ -3,7 +3,7 @@ use borrow.Author.Rules.{rules}
 use mathlib.Core.Path.{refl}
 use lib.ListN.{length}
 use Rattle.check_version.proofs.Answers.{told}
-use Rattle.join_stream.specs.Join.{inFirst, inSecond}
+use Rattle.join_stream.specs.Join.{in_first, in_second}
 use Rattle.join.proofs.Answers.{refuses, first_refused, second_refused}
 use Rattle.join.proofs.join.Statement.{statement}
 use Rattle.join.proofs.join.Tie as tie
@@ -15,13 +15,13 @@ join_accepted_requires c κs =
 returns : tie.Need-returns-in-Refused
 returns c =
     let a = c.args in
-    refuses a.first.now a.second.now a.buffer.now _ inFirst _ _
+    refuses a.first.now a.second.now a.buffer.now _ in_first _ _
     (first_refused a.first.now a.second.now (length a.buffer.now) _ _ (told c.check_version.ensures c.in-Refused.is)) refl
 
 returns_2 : tie.Need-returns-in-Refused-check_version
 returns_2 c =
     let a = c.args in
-    refuses a.first.now a.second.now a.buffer.now _ inSecond _ _
+    refuses a.first.now a.second.now a.buffer.now _ in_second _ _
     (second_refused a.first.now a.second.now (length a.buffer.now) _ _ _ (told c.check_version.ensures c.in-Accepted.is)
     (told c.check_version-in-Accepted.ensures c.in-Refused-check_version.is)) refl
 
