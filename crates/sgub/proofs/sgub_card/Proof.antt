@@ -7,7 +7,7 @@ use Rattle.sgub.proofs.sgub_card.Statement.{statement}
 use Rattle.sgub.proofs.sgub_card.Tie as tie
 
 returns : tie.Need-returns
-returns c = c.card-of.ensures ∙ ap (λ (w : Whole). card_on w.0 c.before.before.before.args.index) c.before.check-file.ensures
+returns c = c.card_of.ensures ∙ ap (λ (w : Whole). card_on w.0 c.args.index) c.check_file.ensures
 
 pub sgub_card_spec : {M : Type 1} → statement M
 sgub_card_spec = tie.close (tie.spec (search rules) (search rules) returns)

@@ -7,7 +7,7 @@ use Rattle.sgub.proofs.sgub_check.Statement.{statement}
 use Rattle.sgub.proofs.sgub_check.Tie as tie
 
 returns : tie.Need-returns
-returns c = c.verdict-of.ensures ∙ ap (λ (w : Whole). verdict_on w.0) c.before.check-file.ensures
+returns c = c.verdict_of.ensures ∙ ap (λ (w : Whole). verdict_on w.0) c.check_file.ensures
 
 pub sgub_check_spec : {M : Type 1} → statement M
 sgub_check_spec = tie.close (tie.spec (search rules) (search rules) returns)

@@ -10,9 +10,9 @@ use Rattle.sgub.proofs.sgub_pool.Tie as tie
 
 returns : tie.Need-returns
 returns c =
-    let a = c.before.before.before.args in
+    let a = c.args in
     let file = a.file.now in
-    let is = c.pool-of.ensures ∙ ap pool_on c.before.find-pool.ensures in (
+    let is = c.pool_of.ensures ∙ ap pool_on c.find_pool.ensures in (
       is,
       ap (λ (r : SgubPool). r.kind) is ∙ kind_told file a.id,
       ap (λ (r : SgubPool). part file r.offset r.size) is ∙ payload_told file a.id,

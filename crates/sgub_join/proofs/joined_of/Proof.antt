@@ -7,7 +7,7 @@ pub joined_of_spec : {M : Type 1} → statement M
 joined_of_spec =
     tie.close
     (tie.spec (search rules) (search rules) (search rules) (search rules) (search rules) (search rules) (search rules)
-    (λ c. simp c.before.answer.given.1)
-    (λ c. simp (c.before.before.answer2.given.1, ← c.refused.ensures))
-    (λ c. simp (c.before.before.answer3.given.1, ← c.refused2.ensures))
-    (λ c. simp (c.before.before.answer4.given.1, ← c.refused3.ensures)))
+    (λ c. simp c.in-Written.is)
+    (λ c. simp (c.in-First.is, ← c.refused.ensures))
+    (λ c. simp (c.in-Second.is, ← c.refused-in-Second.ensures))
+    (λ c. simp (c.in-Neither.is, ← c.refused-in-Neither.ensures)))

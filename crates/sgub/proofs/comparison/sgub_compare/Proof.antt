@@ -7,8 +7,8 @@ use Rattle.sgub.proofs.comparison.sgub_compare.Tie as tie
 
 returns : tie.Need-returns
 returns c =
-    let found = c.before.before.before.before.before.compare.ensures in
-    (c.compared-of.ensures ∙ ap compared_on found.0, found.1, found.2)
+    let found = c.compare.ensures in
+    (c.compared_of.ensures ∙ ap compared_on found.0, found.1, found.2)
 
 pub sgub_compare_spec : {M : Type 1} → statement M
 sgub_compare_spec = tie.close (tie.spec (search rules) (search rules) (search rules) (search rules) returns)

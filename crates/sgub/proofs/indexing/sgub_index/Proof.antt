@@ -7,8 +7,8 @@ use Rattle.sgub.proofs.indexing.sgub_index.Tie as tie
 
 returns : tie.Need-returns
 returns c =
-    let found = c.before.before.before.build-index.ensures in
-    (c.Indexed-of.ensures ∙ ap indexed_on found.0, found.1)
+    let found = c.build_index.ensures in
+    (c.indexed_of.ensures ∙ ap indexed_on found.0, found.1)
 
 pub sgub_index_spec : {M : Type 1} → statement M
 sgub_index_spec = tie.close (tie.spec (search rules) (search rules) (search rules) returns)

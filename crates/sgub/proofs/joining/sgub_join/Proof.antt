@@ -7,8 +7,8 @@ use Rattle.sgub.proofs.joining.sgub_join.Tie as tie
 
 returns : tie.Need-returns
 returns c =
-    let found = c.before.before.before.join.ensures in
-    (c.Joined-of.ensures ∙ ap joined_on found.0, found.1)
+    let found = c.join.ensures in
+    (c.joined_of.ensures ∙ ap joined_on found.0, found.1)
 
 pub sgub_join_spec : {M : Type 1} → statement M
 sgub_join_spec = tie.close (tie.spec (search rules) (search rules) (search rules) returns)

@@ -10,9 +10,8 @@ use Rattle.sgub.proofs.pitch.sgub_frequency.Tie as tie
 
 returns : tie.Need-returns
 returns c =
-    let s = c.before.before in
-    c.frequency-of.ensures
-    ∙ ap frequency_on (c.before.frequency.ensures ∙ ap (frequency_of s.args.note) (to_z-of_z w8 s.args.semitones s.ranges.semitones))
+    c.frequency_of.ensures
+    ∙ ap frequency_on (c.frequency.ensures ∙ ap (frequency_of c.args.note) (to_z-of_z w8 c.args.semitones c.ranges.semitones))
 
 pub sgub_frequency_spec : {M : Type 1} → statement M
 sgub_frequency_spec = tie.close (tie.spec (search rules) (search rules) returns)

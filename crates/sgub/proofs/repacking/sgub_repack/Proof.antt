@@ -7,8 +7,8 @@ use Rattle.sgub.proofs.repacking.sgub_repack.Tie as tie
 
 returns : tie.Need-returns
 returns c =
-    let found = c.before.before.before.compile-song-v2.ensures in
-    (c.repacked-of.ensures ∙ ap repacked_on found.0, found.1)
+    let found = c.compile_song_v2.ensures in
+    (c.repacked_of.ensures ∙ ap repacked_on found.0, found.1)
 
 pub sgub_repack_spec : {M : Type 1} → statement M
 sgub_repack_spec = tie.close (tie.spec (search rules) (search rules) (search rules) returns)
