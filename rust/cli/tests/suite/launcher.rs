@@ -53,8 +53,7 @@ impl Outline {
             outline.write(name, "");
         }
         // sgub stands on two crates and on one of the kit's; the last one is none of them.
-        let crates =
-            "# Crates\nbase:\nbytes: base # numbers\nsgub staticlib: base bytes io\n\ntheorem: bytes\n";
+        let crates = "# Crates\nbase:\nbytes: base # numbers\nsgub staticlib: base bytes io\n\ntheorem: bytes\n";
         outline.write("crates.txt", crates);
         fs::create_dir(outline.root.join("bin")).unwrap();
         let programs = Path::new(env!("CARGO_MANIFEST_DIR")).join("tests/launcher");
@@ -243,7 +242,12 @@ fn crates_are_checked_side_by_side() {
     let outline = Outline::new("launcher_jobs");
     outline.launch(&[]);
     let calls = fs::read_to_string(outline.root.join("calls")).unwrap();
-    let (_, jobs) = calls.lines().next().unwrap().split_once(" --jobs ").unwrap();
+    let (_, jobs) = calls
+        .lines()
+        .next()
+        .unwrap()
+        .split_once(" --jobs ")
+        .unwrap();
     let processors = Command::new("nproc").output().unwrap().stdout;
     let processors = String::from_utf8(processors).unwrap();
     let most: u32 = processors.trim().parse().unwrap();
