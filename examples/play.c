@@ -1,6 +1,6 @@
 /* Plays a stream file through a run of 64 records and prints what `./sgub play --run 64 FILE` prints: one pass and the closing
  * writes. The exit status is 0, 1 for a refused file, and 2 if the file cannot be read. From the root of the repository, once
- * `rt staticlib sgub` has made the library:
+ * `./sgub` has built the library:
  *
  *     cc -Iinclude examples/play.c target/staticlib/libsgub.a -o play */
 #include "sgub.h"

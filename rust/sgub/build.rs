@@ -1,4 +1,4 @@
-//! Finds the static library that `rt staticlib sgub` makes.
+//! Finds the static library that `./sgub` builds from the proved crates, and puts into target/staticlib.
 
 use std::env;
 use std::path::{Path, PathBuf};
@@ -16,14 +16,14 @@ fn main() {
         println!("cargo::rustc-env=SGUB_ARCHIVE={}", archive.display());
     } else {
         println!(
-            "cargo::error={} is missing: run `rt staticlib sgub` at the root of the repository, \
+            "cargo::error={} is missing: run `./sgub` at the root of the repository, which builds it, \
              or name the directory of libsgub.a in SGUB_LIB_DIR",
             archive.display()
         );
     }
 }
 
-/// What SGUB_LIB_DIR names, else where `rt` writes.
+/// What SGUB_LIB_DIR names, else where `./sgub` puts it.
 fn directory() -> PathBuf {
     if let Some(named) = env::var_os("SGUB_LIB_DIR") {
         return PathBuf::from(named);

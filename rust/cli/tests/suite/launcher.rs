@@ -1,33 +1,43 @@
 //! The launcher `sgub` at the root of the repository, in a copy of the repository's outline. The programs rt and cargo that it
 //! finds there, in `tests/launcher`, only note that they were called.
 
-use crate::{directory, expect, root};
+use crate::{expect, root};
+use std::env;
 use std::fs::{self, File};
 use std::os::unix::fs::symlink;
 use std::path::{Path, PathBuf};
-use std::process::{Child, Command, Output, Stdio};
+use std::process::{self, Child, Command, Output, Stdio};
 use std::thread;
 use std::time::{Duration, Instant, SystemTime};
 
-const RT_CALLS: &str = "rt check base bytes\nrt staticlib sgub\n";
+/// How rt is called for the library, in the folder of the crate sgub, with N for a number of jobs.
+const RT_CALLS: &str = "sgub: rt all check --jobs N\nsgub: rt lib\n";
 const CARGO_CALL: &str = "cargo build --release --quiet --manifest-path rust/Cargo.toml \
                           --target-dir rust/target --package sgub-cli\n";
 
 /// The first line of a build of the library.
-const BUILDING: &str = "sgub: building the proved library: 2 crates are proved first, from nothing in about \
-                        six minutes on two processors ..\n";
+const BUILDING: &str = "sgub: building the proved library: 3 crates are checked first, from nothing in some \
+                        ten minutes on four processors ..\n";
 
-/// A source of the library. It ends in neither `.rt` nor `.antt`: `rt ci` refuses such a file outside of the listed crates.
-const SOURCE: &str = "crates/sgub/src/lib";
+/// A source of the library.
+const SOURCE: &str = "crates/sgub/src/lib.rt";
 
+/// It lies outside of the repository, in which `rt ci` refuses a second crates.txt.
 struct Outline {
     root: PathBuf,
 }
 
+impl Drop for Outline {
+    fn drop(&mut self) {
+        let _ = fs::remove_dir_all(&self.root);
+    }
+}
+
 impl Outline {
     fn new(test: &str) -> Self {
+        let name = format!("sgub-{test}-{}", process::id());
         let outline = Self {
-            root: directory(test),
+            root: env::temp_dir().join(name),
         };
         for name in [
             SOURCE,
@@ -42,9 +52,8 @@ impl Outline {
         ] {
             outline.write(name, "");
         }
-        // sgub stands on two crates and on one of the kit's; the last one stands on sgub.
-        let crates =
-            "# Crates\nbase:\nbytes: base # numbers\nsgub: base bytes io\n\ntheorem: sgub\n";
+        // sgub stands on two crates and on one of the kit's; the last one is none of them.
+        let crates = "# Crates\nbase:\nbytes: base # numbers\nsgub staticlib: base bytes io\n\ntheorem: bytes\n";
         outline.write("crates.txt", crates);
         fs::create_dir(outline.root.join("bin")).unwrap();
         let programs = Path::new(env!("CARGO_MANIFEST_DIR")).join("tests/launcher");
@@ -57,7 +66,7 @@ impl Outline {
         }
         // A file that this process wrote itself could not be run while another test starts a process.
         let copied = Command::new("cp")
-            .args(["--recursive", "sgub", "tools"])
+            .arg("sgub")
             .arg(&outline.root)
             .current_dir(root())
             .status();
@@ -90,7 +99,6 @@ impl Outline {
             .args(arguments)
             .current_dir(self.root.join("elsewhere"))
             .env("PATH", format!("{}:/usr/bin:/bin", bin.display()))
-            .env_remove("RT_JOBS")
             .stdin(Stdio::null())
             .stdout(Stdio::piped())
             .stderr(Stdio::piped())
@@ -107,7 +115,11 @@ impl Outline {
         let path = self.root.join("calls");
         let calls = fs::read_to_string(&path).unwrap_or_default();
         let _ = fs::remove_file(path);
-        calls
+        let lines = calls.lines().map(|line| match line.split_once(" --jobs ") {
+            Some((head, _)) => format!("{head} --jobs N\n"),
+            None => format!("{line}\n"),
+        });
+        lines.collect()
     }
 
     /// Runs the launcher and gives the calls of rt and cargo.
@@ -119,13 +131,6 @@ impl Outline {
         let calls = self.take_calls();
         assert_eq!(calls.is_empty(), output.stderr.is_empty(), "{output:?}");
         calls
-    }
-
-    /// The jobs and the folder for temporary files that rt was last told of.
-    fn environment(&self) -> (usize, PathBuf) {
-        let text = fs::read_to_string(self.root.join("environment")).unwrap();
-        let (jobs, folder) = text.lines().last().unwrap().split_once(' ').unwrap();
-        (jobs.parse().unwrap(), PathBuf::from(folder))
     }
 
     /// Waits until rt is under way, which the file `slow` keeps it.
@@ -178,9 +183,12 @@ fn what_is_missing_or_old_is_built_and_nothing_else() {
     outline.edit("rust/cli/src/main.rs");
     assert_eq!(outline.calls(), CARGO_CALL);
     assert_eq!(outline.calls(), "");
-    // This rt finds nothing to do and leaves the library as it is, so the command is not built again.
+    // This rt writes the same archive again, so the command is not built again.
     outline.edit(SOURCE);
     assert_eq!(outline.calls(), RT_CALLS);
+    assert_eq!(outline.calls(), "");
+    // What rt leaves is no source.
+    outline.edit("crates/sgub/out/libsgub.a");
     assert_eq!(outline.calls(), "");
     outline.edit("target/staticlib/libsgub.a");
     assert_eq!(outline.calls(), CARGO_CALL);
@@ -206,28 +214,44 @@ fn it_says_what_it_builds_and_how_long_it_took() {
 fn it_says_how_far_the_proofs_are() {
     let outline = Outline::new("launcher_progress");
     outline.write("slow", "");
-    outline.write("printed", &"rt: base proved (2 s)\n".repeat(19));
+    let names: Vec<String> = (0..29).map(|number| format!("part{number}")).collect();
+    let lines: String = names.iter().map(|name| format!("{name}:\n")).collect();
+    let crates = format!("{lines}sgub staticlib: {}\n", names.join(" "));
+    outline.write("crates.txt", &crates);
+    outline.write("printed", &"statements core\n== part\n".repeat(19));
     let launcher = outline.start(&[]);
     outline.wait_for_rt();
     thread::sleep(Duration::from_millis(2500));
     outline.remove("slow");
     let messages = said(&launcher.wait_with_output().unwrap());
     let line = messages.lines().nth(1).unwrap();
-    assert!(line.starts_with("sgub: 21 of 2 crates proved, "), "{line}");
+    assert!(
+        line.starts_with("sgub: 21 of 30 crates checked, "),
+        "{line}"
+    );
     assert_eq!(
-        messages.matches(" crates proved, ").count(),
+        messages.matches(" crates checked, ").count(),
         1,
         "{messages}"
     );
 }
 
+/// One on each processor at most: fewer where memory is short.
 #[test]
-fn proofs_run_on_all_processors_in_a_folder_that_goes() {
-    let outline = Outline::new("launcher_scratch");
-    outline.calls();
-    let (jobs, folder) = outline.environment();
-    assert!(jobs > thread::available_parallelism().unwrap().get());
-    assert!(folder.is_absolute() && !folder.exists(), "{folder:?}");
+fn crates_are_checked_side_by_side() {
+    let outline = Outline::new("launcher_jobs");
+    outline.launch(&[]);
+    let calls = fs::read_to_string(outline.root.join("calls")).unwrap();
+    let (_, jobs) = calls
+        .lines()
+        .next()
+        .unwrap()
+        .split_once(" --jobs ")
+        .unwrap();
+    let processors = Command::new("nproc").output().unwrap().stdout;
+    let processors = String::from_utf8(processors).unwrap();
+    let most: u32 = processors.trim().parse().unwrap();
+    assert!((1..=most).contains(&jobs.parse().unwrap()), "{jobs}");
 }
 
 #[test]
@@ -253,14 +277,13 @@ fn a_failed_build_shows_its_log() {
     let outline = Outline::new("launcher_fails");
     outline.write("broken", "");
     let output = outline.launch(&[]);
-    let log = outline.root.join("target/launcher/rt-check.log");
+    let log = outline.root.join("target/launcher/rt-all.log");
     let messages = format!(
-        "{BUILDING}not proved\n\
+        "{BUILDING}fn base::first: not proved\n\
          sgub: could not run: the proved library cannot be built; {} has all that was said\n",
         log.display()
     );
     expect(&output, 2, "", &messages);
-    assert!(!outline.environment().1.exists());
     // It is tried again at the next run.
     outline.remove("broken");
     outline.remove("calls");
@@ -299,14 +322,13 @@ fn an_interrupted_build_ends_whole_and_goes_on_at_the_next_run() {
         outline.remove("running");
         thread::sleep(Duration::from_millis(200));
         assert!(!outline.root.join("running").exists());
-        assert!(!outline.environment().1.exists());
         outline.remove("slow");
         outline.take_calls();
         assert_eq!(outline.calls(), format!("{RT_CALLS}{CARGO_CALL}"));
     }
 }
 
-/// Where only the launcher is killed, rt goes on; the next launcher waits for it, and removes what was left.
+/// Where only the launcher is killed, rt goes on; the next launcher waits for it.
 #[test]
 fn the_next_launcher_waits_for_what_a_killed_one_started() {
     let outline = Outline::new("launcher_killed");
@@ -314,19 +336,14 @@ fn the_next_launcher_waits_for_what_a_killed_one_started() {
     let killed = outline.start(&[]);
     outline.wait_for_rt();
     signal("KILL", &killed);
-    let folder = outline.environment().1;
-    assert!(folder.exists());
     let next = outline.start(&["next"]);
     thread::sleep(Duration::from_millis(500));
     outline.remove("slow");
     let next = next.wait_with_output().unwrap();
     assert_eq!(next.stdout, b"in elsewhere: next\n");
     assert!(said(&next).starts_with("sgub: another ./sgub is building; waiting for it ..\n"));
-    assert!(!folder.exists());
     let calls = outline.take_calls();
-    assert_eq!(
-        calls,
-        format!("rt check base bytes\n{RT_CALLS}{CARGO_CALL}")
-    );
+    let begun = "sgub: rt all check --jobs N\n";
+    assert_eq!(calls, format!("{begun}{RT_CALLS}{CARGO_CALL}"));
     drop(killed);
 }

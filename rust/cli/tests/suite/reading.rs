@@ -28,12 +28,15 @@ fn sources() -> Vec<(PathBuf, String)> {
         .collect()
 }
 
-/// The functions of a source: the name of each, and its body.
+/// The functions of a source: the name of each, and its body. Behind a contract the body's bracket stands on a line of its own.
 fn functions(source: &str) -> impl Iterator<Item = (&str, &str)> {
     let parts = source.split("fn ").skip(1);
     parts.filter_map(|part| {
         let name = part.split('(').next()?;
-        let body = part.split_once("\n{\n")?.1.split("\n}\n").next()?;
+        let head = part
+            .split_once("\n{\n")
+            .or_else(|| part.split_once(" {\n"))?;
+        let body = head.1.split("\n}\n").next()?;
         Some((name, body))
     })
 }
