@@ -1,11 +1,13 @@
 // Lent memory as one number, so that few bytes are stored for an image.
-ghost use Rattle.std.specs.Prelude.{◌≡◌, length};
+ghost use Rattle.std.specs.Prelude.{◌≡◌, length, IfOk};
+
+use std::alloc::{AllocError, Global};
 
 // Memory to lend: an image and 16 bytes behind it.
-pub(crate) fn memory() -> [u8; 1048592]
-    ensures { 1048592 ≡ length result }
+pub(crate) fn memory(alloc: Global) -> Result<Vec<u8>, AllocError>
+    ensures { IfOk result (λ bytes. 1048592 ≡ length bytes.items) }
 {
-    [0; 1048592]
+    vec![in alloc; 0; 1048592]
 }
 
 // The number of all lent bytes, those behind an image too.
