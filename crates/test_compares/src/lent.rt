@@ -13,10 +13,8 @@ pub(crate) fn memory(alloc: Global) -> Result<Vec<u8>, AllocError>
 // The number of all lent bytes, those behind an image too.
 pub(crate) fn mix_all(lent: &[u8]) -> u32 {
     let mut sum = test_vectors::BASIS;
-    let mut at: usize = 0;
-    while at < lent.len() {
-        sum = test_vectors::mix(sum, bytes_read::byte_at(lent, at) as u32);
-        at += 1;
+    for byte in lent {
+        sum = test_vectors::mix(sum, *byte as u32);
     }
     sum
 }

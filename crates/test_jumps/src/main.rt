@@ -24,8 +24,7 @@ fn replay_steps<R: Read>(
 ) -> io::Result<u32> {
     let mut state = first;
     let mut same: u32 = 0;
-    let mut left = steps;
-    while 0 < left {
+    for _ in 0..steps {
         let mut stored = [0u8; 32];
         if !test_vectors::read_front(input, &mut stored, 32)? {
             return Ok(same);
@@ -35,7 +34,6 @@ fn replay_steps<R: Read>(
             same = same.wrapping_add(1);
         }
         state = replayed.next;
-        left -= 1;
     }
     Ok(same)
 }

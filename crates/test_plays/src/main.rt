@@ -21,8 +21,7 @@ fn replay_calls<R: Read>(
 ) -> io::Result<u32> {
     let mut state = first;
     let mut same: u32 = 0;
-    let mut left = calls;
-    while 0 < left {
+    for _ in 0..calls {
         let mut stored = [0u8; 16];
         if !test_vectors::read_front(input, &mut stored, 16)? {
             break;
@@ -32,7 +31,6 @@ fn replay_calls<R: Read>(
             same = same.wrapping_add(1);
         }
         state = replayed.next;
-        left -= 1;
     }
     Ok(same)
 }
