@@ -1,51 +1,50 @@
-// Checks the file on standard input, of up to 65,536 bytes, and prints its verdict in one line.
+// Checks the file on standard input, of up to 65,536 bytes, and prints its verdict in one line: `accepted` with version, frames and opening,
+// `refused` with the refusal's number and place, or `long` where there are more bytes.
 #![tactic(auto)]
 
 use base_format::{Header, Refusal};
 use check_file::FileAnswer;
-use libc::{STDIN_FILENO, STDOUT_FILENO};
+use std::io;
+use std::io::Read;
 
 // A word's number behind it.
-fn print_number(number: u64) {
-    io::write_all(STDOUT_FILENO, b" ");
-    io::print_decimal(STDOUT_FILENO, number);
+fn print_number(rt: &impl Print, number: u64) -> io::Result<()> {
+    print!(rt; " {number}")
 }
 
-fn print_accepted(header: Header) {
-    io::write_all(STDOUT_FILENO, b"accepted");
-    print_number(header.version as u64);
-    print_number(header.frame_count as u64);
-    print_number(header.initial_count as u64);
-    io::write_all(STDOUT_FILENO, b"\n");
+fn print_accepted(rt: &impl Print, header: Header) -> io::Result<()> {
+    print!(rt; "accepted")?;
+    print_number(rt, header.version as u64)?;
+    print_number(rt, header.frame_count as u64)?;
+    print_number(rt, header.initial_count as u64)?;
+    println!(rt)
 }
 
-fn print_refused(refusal: Refusal) {
+fn print_refused(rt: &impl Print, refusal: Refusal) -> io::Result<()> {
     let rule = refusal.rule;
-    io::write_all(STDOUT_FILENO, b"refused");
-    print_number(base_refusal::number(rule) as u64);
-    print_number(refusal.place as u64);
-    io::write_all(STDOUT_FILENO, b"\n");
+    print!(rt; "refused")?;
+    print_number(rt, base_refusal::number(rule) as u64)?;
+    print_number(rt, refusal.place as u64)?;
+    println!(rt)
 }
 
-fn print_verdict(file: &[u8]) {
+fn print_verdict(rt: &impl Print, file: &[u8]) -> io::Result<()> {
     let checked = check_file::check_file(file);
     let answer = checked.answer;
     match answer {
         FileAnswer::Accepted {
             header,
             uses_si22: _,
-        } => print_accepted(header),
-        FileAnswer::Refused(refusal) => print_refused(refusal),
+        } => print_accepted(rt, header),
+        FileAnswer::Refused(refusal) => print_refused(rt, refusal),
     }
 }
 
-fn main() {
-    let mut buffer = io::large_buffer();
-    let count = io::read_full(STDIN_FILENO, &mut buffer);
-    let mut beyond = [0u8; 1];
-    if 0 < io::read_full(STDIN_FILENO, &mut beyond) {
-        io::write_all(STDOUT_FILENO, b"long\n");
-        return;
+fn main(rt: HostRuntime) -> io::Result<()> {
+    let mut file = Vec::new(rt.alloc());
+    rt.stdin().take(65537).read_to_end(&mut file)?;
+    if 65536 < file.len() {
+        return println!(rt; "long");
     }
-    print_verdict(&buffer[..count]);
+    print_verdict(&rt, &file)
 }

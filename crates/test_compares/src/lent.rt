@@ -1,20 +1,20 @@
 // Lent memory as one number, so that few bytes are stored for an image.
-ghost use Rattle.std.specs.Prelude.{◌≡◌, length};
+ghost use Rattle.std.specs.Prelude.{◌≡◌, length, IfOk};
+
+use std::alloc::{AllocError, Global};
 
 // Memory to lend: an image and 16 bytes behind it.
-pub(crate) fn memory() -> [u8; 1048592]
-    ensures { 1048592 ≡ length result }
+pub(crate) fn memory(alloc: Global) -> Result<Vec<u8>, AllocError>
+    ensures { IfOk result (λ bytes. 1048592 ≡ length bytes.items) }
 {
-    [0; 1048592]
+    vec![in alloc; 0; 1048592]
 }
 
 // The number of all lent bytes, those behind an image too.
 pub(crate) fn mix_all(lent: &[u8]) -> u32 {
     let mut sum = test_vectors::BASIS;
-    let mut at: usize = 0;
-    while at < lent.len() {
-        sum = test_vectors::mix(sum, bytes_read::byte_at(lent, at) as u32);
-        at += 1;
+    for byte in lent {
+        sum = test_vectors::mix(sum, *byte as u32);
     }
     sum
 }

@@ -52,5 +52,5 @@ pub(crate) fn is_same(
     if !is_answer(stored, answer) {
         return false;
     }
-    check::same(lent, expected)
+    *lent == *expected
 }

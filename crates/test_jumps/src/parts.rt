@@ -1,5 +1,7 @@
 // The bytes that a script lends: two files and their indexes, which are the parts 0 to 3 of a buffer. A part has 4,096 bytes, with zeros behind
 // its own.
+use std::io;
+use std::io::Read;
 use test_vectors::next_number;
 
 // The lengths of the files and of their indexes, and the number of steps.
@@ -13,40 +15,44 @@ pub(crate) struct Lengths {
 }
 
 // What comes behind the first length.
-pub(crate) fn read_lengths(input: i32, file: u32) -> Lengths {
+pub(crate) fn read_lengths<R: Read>(input: &mut R, file: u32) -> io::Result<Lengths> {
     let mut bytes = [0u8; 4];
-    let other = next_number(input, &mut bytes);
-    let index = next_number(input, &mut bytes);
-    let other_index = next_number(input, &mut bytes);
-    let steps = next_number(input, &mut bytes);
-    Lengths {
+    let other = next_number(input, &mut bytes)?;
+    let index = next_number(input, &mut bytes)?;
+    let other_index = next_number(input, &mut bytes)?;
+    let steps = next_number(input, &mut bytes)?;
+    Ok(Lengths {
         file,
         other,
         index,
         other_index,
         steps,
-    }
+    })
 }
 
 // Reads one part; false where it is too long, or not all of it is left.
-fn read_part(input: i32, buffer: &mut [u8], part: u8, length: u32) -> bool {
+fn read_part<R: Read>(input: &mut R, buffer: &mut [u8], part: u8, length: u32) -> io::Result<bool> {
     let at = part as usize * 4096;
     let end = at + 4096;
     if buffer.len() < end {
-        return false;
+        return Ok(false);
     }
     test_vectors::read_front(input, &mut buffer[at..end], length as usize)
 }
 
-pub(crate) fn read_parts(input: i32, buffer: &mut [u8], lengths: Lengths) -> bool {
-    if !read_part(input, buffer, 0, lengths.file) {
-        return false;
+pub(crate) fn read_parts<R: Read>(
+    input: &mut R,
+    buffer: &mut [u8],
+    lengths: Lengths,
+) -> io::Result<bool> {
+    if !read_part(input, buffer, 0, lengths.file)? {
+        return Ok(false);
     }
-    if !read_part(input, buffer, 1, lengths.other) {
-        return false;
+    if !read_part(input, buffer, 1, lengths.other)? {
+        return Ok(false);
     }
-    if !read_part(input, buffer, 2, lengths.index) {
-        return false;
+    if !read_part(input, buffer, 2, lengths.index)? {
+        return Ok(false);
     }
     read_part(input, buffer, 3, lengths.other_index)
 }

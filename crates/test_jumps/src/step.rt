@@ -53,7 +53,7 @@ fn replay_lent(buffer: &[u8], state: StreamPlayer, stored: &[u8]) -> Replayed {
     if byte_at(stored, 0) == 0 {
         return replay_call(file, state, stored);
     }
-    let part = std::num::wrapping_add_u8(byte_at(stored, 2), 2);
+    let part = byte_at(stored, 2).wrapping_add(2);
     let index = lent(buffer, part, read_u16(stored, 10) as usize);
     replay_jump(file, index, state, stored)
 }
@@ -66,7 +66,7 @@ fn changed_at(part: u8, place: u16) -> usize {
 // The changed bytes have their old values again behind the step.
 pub(crate) fn replay(buffer: &mut [u8], state: StreamPlayer, stored: &[u8]) -> Replayed {
     let file_at = changed_at(byte_at(stored, 1), read_u16(stored, 12));
-    let part = std::num::wrapping_add_u8(byte_at(stored, 2), 2);
+    let part = byte_at(stored, 2).wrapping_add(2);
     let index_at = changed_at(part, read_u16(stored, 14));
     let file_byte = byte_at(buffer, file_at);
     let index_byte = byte_at(buffer, index_at);

@@ -26,10 +26,8 @@ fn source_number(source: WaveSource) -> u32 {
 // The number behind the wave sources.
 fn mix_sources(sum: u32, sources: [WaveSource; 16]) -> u32 {
     let mut mixed = sum;
-    let mut i = 0;
-    while i < 16 {
-        mixed = mix(mixed, source_number(sources[i]));
-        i += 1;
+    for source in sources {
+        mixed = mix(mixed, source_number(source));
     }
     mixed
 }

@@ -2,11 +2,14 @@
 // pitch in two bytes, which is 0 where the pair is refused. 0xFFFFFFFF ends the list. rust/README.md says how it is made.
 #![tactic(auto)]
 
-ghost use Rattle.std.specs.Prelude.{◌≡◌, ◌<◌};
+ghost use Rattle.std.specs.Prelude.{◌≡◌, ◌<◌, IfOk};
 ghost use Rattle.std.specs.Int.{w8};
 ghost use Rattle.std.proofs.Common.{to_z};
 
 use pitch_frequency::Pitched;
+use std::fs::File;
+use std::io;
+use std::io::Read;
 use test_vectors::Counts;
 
 // The number of the refusal, and its place.
@@ -50,23 +53,23 @@ fn replay(pair: u32) -> bool {
 }
 
 // The counts behind the next pair of the list.
-fn replay_next(input: i32, counts: Counts) -> Counts
+fn replay_next<R: Read>(input: &mut R, counts: Counts) -> io::Result<Counts>
     requires { 0 < counts.left }
-    ensures { result.left < counts.left }
+    ensures { IfOk result (λ behind. behind.left < counts.left) }
 {
     let mut bytes = [0u8; 4];
-    let pair = test_vectors::next_number(input, &mut bytes);
+    let pair = test_vectors::next_number(input, &mut bytes)?;
     if pair == test_vectors::END {
-        return test_vectors::ended(counts);
+        return Ok(test_vectors::ended(counts));
     }
-    test_vectors::count(counts, replay(pair))
+    Ok(test_vectors::count(counts, replay(pair)))
 }
 
-fn main() {
-    let input = os::open_read(b"pitches.bin");
+fn main(rt: HostRuntime) -> io::Result<()> {
+    let mut input = File::open(&rt, "pitches.bin")?;
     let mut counts = test_vectors::none();
     while 0 < counts.left {
-        counts = replay_next(input, counts);
+        counts = replay_next(&mut input, counts)?;
     }
-    test_vectors::print(counts);
+    test_vectors::print(&rt, counts)
 }

@@ -24,13 +24,13 @@ struct Told {
 fn flags_of(refused: bool, complete: bool, finished: bool) -> u8 {
     let mut flags: u8 = 0;
     if refused {
-        flags = std::num::wrapping_add_u8(flags, 1);
+        flags = flags.wrapping_add(1);
     }
     if complete {
-        flags = std::num::wrapping_add_u8(flags, 2);
+        flags = flags.wrapping_add(2);
     }
     if finished {
-        flags = std::num::wrapping_add_u8(flags, 4);
+        flags = flags.wrapping_add(4);
     }
     flags
 }

@@ -58,8 +58,8 @@ fn mix_segment(sum: u32, at: usize, file: &[u8], segment: Segment) -> u32
     while i < segment.count {
         let value = value_of(file, segment, i);
         mixed = mix_record(mixed, place, segment.target, address, value);
-        place = std::num::wrapping_add_u32(place, 1);
-        address = std::num::wrapping_add_u32(address, 1);
+        place = place.wrapping_add(1);
+        address = address.wrapping_add(1);
         i = i + 1;
     }
     mixed

@@ -2,16 +2,20 @@
 // the refusal's number and place, and the result's length and bytes. Numbers have four bytes. rust/README.md says how it is made.
 #![tactic(auto)]
 
-ghost use Rattle.std.specs.Prelude.{◌≡◌, ◌<◌, length};
+ghost use Rattle.std.specs.Prelude.{◌≡◌, ◌<◌, length, IfOk};
 
 use repack_ordered::Repacked;
+use std::alloc::{AllocError, Global};
+use std::fs::File;
+use std::io;
+use std::io::Read;
 use test_vectors::Counts;
 
 // What the lent bytes are before a call. No master and no room of the list is longer than 65,536 bytes.
-fn memory() -> [u8; 65536]
-    ensures { 65536 ≡ length result }
+fn memory(alloc: Global) -> Result<Vec<u8>, AllocError>
+    ensures { IfOk result (λ bytes. 65536 ≡ length bytes.items) }
 {
-    [0xA5; 65536]
+    vec![in alloc; 0xA5; 65536]
 }
 
 // Whether an answer is the one that is stored: room, number, place and size.
@@ -46,51 +50,52 @@ fn compare(master: &[u8], head: &[u8], lent: &mut [u8], expected: &[u8]) -> bool
     if !is_stored(answer, head) {
         return false;
     }
-    check::same(lent, expected)
+    *lent == *expected
 }
 
 // Reads a master with its answer and compares. False also where no whole one is left. Behind the result the lent bytes stay as they were.
-fn replay(input: i32, length: usize) -> bool {
-    let mut master = io::large_buffer();
+fn replay<R: Read>(alloc: Global, input: &mut R, length: usize) -> io::Result<bool> {
+    let mut master = vec![in alloc; 0; 65536]?;
     let mut head = [0u8; 16];
-    let mut lent = memory();
-    let mut expected = memory();
-    if !test_vectors::read_front(input, &mut master, length) {
-        return false;
+    let mut lent = memory(alloc)?;
+    let mut expected = memory(alloc)?;
+    if !test_vectors::read_front(input, &mut master, length)? {
+        return Ok(false);
     }
-    if !test_vectors::read_front(input, &mut head, 16) {
-        return false;
+    if !test_vectors::read_front(input, &mut head, 16)? {
+        return Ok(false);
     }
     let size = bytes_read::read_u32(&head, 12) as usize;
-    if !test_vectors::read_front(input, &mut expected, size) {
-        return false;
+    if !test_vectors::read_front(input, &mut expected, size)? {
+        return Ok(false);
     }
-    compare(
+    Ok(compare(
         test_vectors::front(&master, length),
         &head,
         &mut lent,
         &expected,
-    )
+    ))
 }
 
 // The counts behind the next master of the list.
-fn replay_next(input: i32, counts: Counts) -> Counts
+fn replay_next<R: Read>(alloc: Global, input: &mut R, counts: Counts) -> io::Result<Counts>
     requires { 0 < counts.left }
-    ensures { result.left < counts.left }
+    ensures { IfOk result (λ behind. behind.left < counts.left) }
 {
     let mut bytes = [0u8; 4];
-    let length = test_vectors::next_number(input, &mut bytes);
+    let length = test_vectors::next_number(input, &mut bytes)?;
     if length == test_vectors::END {
-        return test_vectors::ended(counts);
+        return Ok(test_vectors::ended(counts));
     }
-    test_vectors::count(counts, replay(input, length as usize))
+    let same = replay(alloc, input, length as usize)?;
+    Ok(test_vectors::count(counts, same))
 }
 
-fn main() {
-    let input = os::open_read(b"repacks.bin");
+fn main(rt: HostRuntime) -> io::Result<()> {
+    let mut input = File::open(&rt, "repacks.bin")?;
     let mut counts = test_vectors::none();
     while 0 < counts.left {
-        counts = replay_next(input, counts);
+        counts = replay_next(rt.alloc(), &mut input, counts)?;
     }
-    test_vectors::print(counts);
+    test_vectors::print(&rt, counts)
 }

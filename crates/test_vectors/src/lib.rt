@@ -2,13 +2,15 @@
 // two counts. Nothing says that a file ends, so its entries are counted down from a number that no list has.
 #![tactic(auto)]
 
-ghost use Rattle.std.specs.Prelude.{◌≡◌, ◌+◌, ◌*◌, ◌%◌, ◌^◌, ◌<◌, not, take};
+ghost use Rattle.std.specs.Prelude.{◌≡◌, ◌+◌, ◌*◌, ◌%◌, ◌^◌, ◌<◌, not, take, drop, length, IfOk, OnErr, IsTrue};
+ghost use Rattle.std.specs.Io.KnownBytes.{Consumes};
 ghost use mir.Val.{bool_byte};
 ghost use Rattle.base_format.specs.Bytes.{be};
 ghost use Rattle.test_vectors.specs.Counts.{CountsWith};
 ghost use Rattle.test_vectors.specs.Front.{ReadFront};
 
-use libc::STDOUT_FILENO;
+use std::io;
+use std::io::{ErrorKind, Read};
 
 // The number that ends a list.
 pub const END: u32 = 0xFFFFFFFF;
@@ -41,8 +43,8 @@ pub fn add(counts: Counts, same: u64, different: u64) -> Counts
     ensures { CountsWith counts same different result }
 {
     Counts {
-        same: std::num::wrapping_add_u64(counts.same, same),
-        different: std::num::wrapping_add_u64(counts.different, different),
+        same: counts.same.wrapping_add(same),
+        different: counts.different.wrapping_add(different),
         left: counts.left - 1,
     }
 }
@@ -66,29 +68,38 @@ pub fn ended(counts: Counts) -> Counts
     }
 }
 
-fn print_count(word: &[u8], count: u64) {
-    io::write_all(STDOUT_FILENO, word);
-    io::write_all(STDOUT_FILENO, b" ");
-    io::print_decimal(STDOUT_FILENO, count);
-    io::write_all(STDOUT_FILENO, b"\n");
+fn print_count(rt: &impl Print, word: &str, count: u64) -> io::Result<()> {
+    println!(rt; "{word} {count}")
 }
 
 // Writes the two counts, a line each, and returns nothing: no contract can say what is written.
-pub fn print(counts: Counts)
-    ensures { result ≡ tt }
+pub fn print(rt: &impl Print, counts: Counts) -> io::Result<()>
+    ensures { IfOk result (λ done. done ≡ tt) }
 {
-    print_count(b"same", counts.same);
-    print_count(b"different", counts.different);
+    print_count(rt, "same", counts.same)?;
+    print_count(rt, "different", counts.different)
 }
 
-// Reads so many bytes to the front of a buffer; false where it is too short, or so many are not left.
-pub fn read_front(input: i32, buffer: &mut [u8], size: usize) -> bool
-    ensures { ReadFront size buffer.old buffer.new result }
+// Reads so many bytes to the front of a buffer; false where it is too short, or so many are not left. Behind the front the buffer stays as it
+// was, also where a read fails. Where true comes, the front has the next bytes of a reader that says which they are.
+pub fn read_front<R: Read>(input: &mut R, buffer: &mut [u8], size: usize) -> io::Result<bool>
+    ensures ok { IfOk result (λ whole. ReadFront size buffer.old buffer.new whole) }
+    ensures bytes { IfOk result (λ whole. IsTrue whole → Consumes (R.remaining input.old) (R.remaining input.new) (take size buffer.new)) }
+    ensures err { OnErr result ((length buffer.new ≡ length buffer.old) × (drop size buffer.new ≡ drop size buffer.old)) }
 {
     if buffer.len() < size {
-        return false;
+        return Ok(false);
     }
-    io::read_full(input, &mut buffer[0..size]) == size
+    match input.read_exact(&mut buffer[0..size]) {
+        Ok(()) => Ok(true),
+        Err(e) => {
+            if e.kind() == ErrorKind::UnexpectedEof {
+                Ok(false)
+            } else {
+                Err(e)
+            }
+        }
+    }
 }
 
 // So many bytes from the front of a buffer; all of it where it is shorter.
@@ -102,13 +113,13 @@ pub fn front(buffer: &[u8], size: usize) -> &[u8]
 }
 
 // The next number of the input, which the lent bytes then hold; END where its four bytes are not there.
-pub fn next_number(input: i32, bytes: &mut [u8; 4]) -> u32
-    ensures { result ≡ be 4 bytes.new 0 }
+pub fn next_number<R: Read>(input: &mut R, bytes: &mut [u8; 4]) -> io::Result<u32>
+    ensures { IfOk result (λ number. number ≡ be 4 bytes.new 0) }
 {
-    if !read_front(input, bytes, 4) {
+    if !read_front(input, bytes, 4)? {
         bytes_read::put_u32(bytes, 0, END);
     }
-    bytes_read::read_u32(bytes, 0)
+    Ok(bytes_read::read_u32(bytes, 0))
 }
 
 // The number of a list of values with one more: 33 times the number and the value, of which the low 32 bits count.

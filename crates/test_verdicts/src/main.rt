@@ -2,9 +2,12 @@
 // four bytes: the refusal's number and place, and version, frames and opening of an accepted file. rust/README.md says how it is made.
 #![tactic(auto)]
 
-ghost use Rattle.std.specs.Prelude.{◌<◌};
+ghost use Rattle.std.specs.Prelude.{◌<◌, IfOk};
 
 use check_file::FileAnswer;
+use std::fs::File;
+use std::io;
+use std::io::Read;
 use test_vectors::Counts;
 
 // A file's answer as the five numbers.
@@ -62,36 +65,38 @@ fn is_stored(answer: Answer, stored: &[u8]) -> bool {
 }
 
 // Reads a file with its answer and compares. False also where no whole one is left. No file of the list is longer than 4,096 bytes.
-fn replay(input: i32, length: usize) -> bool {
-    let mut file = io::buffer();
+fn replay<R: Read>(input: &mut R, length: usize) -> io::Result<bool> {
+    let mut file = [0u8; 4096];
     let mut stored = [0u8; 20];
-    if !test_vectors::read_front(input, &mut file, length) {
-        return false;
+    if !test_vectors::read_front(input, &mut file, length)? {
+        return Ok(false);
     }
-    if !test_vectors::read_front(input, &mut stored, 20) {
-        return false;
+    if !test_vectors::read_front(input, &mut stored, 20)? {
+        return Ok(false);
     }
-    is_stored(answer_of(test_vectors::front(&file, length)), &stored)
+    let answer = answer_of(test_vectors::front(&file, length));
+    Ok(is_stored(answer, &stored))
 }
 
 // The counts behind the next file of the list.
-fn replay_next(input: i32, counts: Counts) -> Counts
+fn replay_next<R: Read>(input: &mut R, counts: Counts) -> io::Result<Counts>
     requires { 0 < counts.left }
-    ensures { result.left < counts.left }
+    ensures { IfOk result (λ behind. behind.left < counts.left) }
 {
     let mut bytes = [0u8; 4];
-    let length = test_vectors::next_number(input, &mut bytes);
+    let length = test_vectors::next_number(input, &mut bytes)?;
     if length == test_vectors::END {
-        return test_vectors::ended(counts);
+        return Ok(test_vectors::ended(counts));
     }
-    test_vectors::count(counts, replay(input, length as usize))
+    let same = replay(input, length as usize)?;
+    Ok(test_vectors::count(counts, same))
 }
 
-fn main() {
-    let input = os::open_read(b"verdicts.bin");
+fn main(rt: HostRuntime) -> io::Result<()> {
+    let mut input = File::open(&rt, "verdicts.bin")?;
     let mut counts = test_vectors::none();
     while 0 < counts.left {
-        counts = replay_next(input, counts);
+        counts = replay_next(&mut input, counts)?;
     }
-    test_vectors::print(counts);
+    test_vectors::print(&rt, counts)
 }
