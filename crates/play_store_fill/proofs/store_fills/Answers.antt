@@ -23,7 +23,7 @@ loop-i-preserved c =
       omega arith,
       next_is c,
       rw (next_is c, c.loop-i.invariant.3)
-      (pasted_next a.file.now a.version a.from a.made a.count a.run.now c.loop-i.i (omega (arith, c.loop-i.invariant.0))),
+          (pasted_next a.file.now a.version a.from a.made a.count a.run.now c.loop-i.i (omega (arith, c.loop-i.invariant.0))),
     )
 
 pub returns : goal.returns

@@ -38,8 +38,8 @@ bounds-run-at c = let f = fits _ _ _ _ _ _ c.loop-i.invariant.0 c.loop-i-test.tr
 value_is : (c : goal.After-struct_known-in-loop-i-1) → c.if-segment.value ≡ value_at c.args.file.now c.args.segment c.loop-i.i
 value_is c =
     elim c.if-segment.branch [
-      then-segment w ↦ w.value-is ∙ sym (ap (λ b. cond b (byte c.args.file.now (c.args.segment.from + c.loop-i.i)) c.args.segment.value) w.if-segment.true)
-    | else-segment w ↦ w.value-is ∙ sym (ap (λ b. cond b (byte c.args.file.now (c.args.segment.from + c.loop-i.i)) c.args.segment.value) w.if-segment.false)
+      | then-segment w ↦ w.value-is ∙ sym (ap (λ b. cond b (byte c.args.file.now (c.args.segment.from + c.loop-i.i)) c.args.segment.value) w.if-segment.true)
+      | else-segment w ↦ w.value-is ∙ sym (ap (λ b. cond b (byte c.args.file.now (c.args.segment.from + c.loop-i.i)) c.args.segment.value) w.if-segment.false)
     ]
 
 pub loop-i-preserved : goal.loop-i-preserved

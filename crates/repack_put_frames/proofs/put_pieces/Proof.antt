@@ -131,8 +131,8 @@ loop_less : tie.Need-loop-left-smaller invariant_loop decreases_loop
 loop_less c =
     let l = c.loop-left in
     elim c.if-noted_place-from.branch [
-      then-noted_place-from w ↦ rw w.left-is (omega (arith, long (record { before = c.before; if-noted_place-from = w.if-noted_place-from })))
-    | else-noted_place-from w ↦ rw w.left-is (omega arith)
+      | then-noted_place-from w ↦ rw w.left-is (omega (arith, long (record { before = c.before; if-noted_place-from = w.if-noted_place-from })))
+      | else-noted_place-from w ↦ rw w.left-is (omega arith)
     ]
 
 loop_again : tie.Need-loop-left-preserved invariant_loop decreases_loop
@@ -144,45 +144,45 @@ loop_again c =
     let file = a.file.now in
     let numbers = a.numbers.now in
     elim c.if-noted_place-from.branch [
-      then-noted_place-from w ↦
-    let here : tie.Then-noted_place-from invariant_loop decreases_loop = record { before = c.before; if-noted_place-from = w.if-noted_place-from } in
-    let wave = starts_here here in
-    let records = long here in
-    rw (w.from-is, w.left-is, w.uses-is) (
-      omega arith,
-      omega arith,
-      omega (arith, l.invariant.2, pieces_wave file l.left l.from wave),
-      omega (arith, l.invariant.3, ap length (uses_wave file l.left l.from wave)),
-      behind_wave l.invariant.4 wave,
-      wrote
-          l.invariant.5
-          (item_bytes 2 (Copy (byte file l.from) (be 3 file (l.from + 1)) (a.base + get_or numbers l.uses 0) 0 256))
-          (pieces_by numbers a.base (l.uses + 1) file (l.left - 256) (l.from + 1280))
-          copy.result
-          (by_wave numbers a.base file l.uses l.left l.from wave)
-          (copy_size _ _ _ _ _ ∙ sym copy.ensures.0)
-          w.place-is
-          (w.buffer-is ∙ w.put_wave_copy.ensures),
-    )
-    | else-noted_place-from w ↦
-    let single = starts_not (record { before = c.before; if-noted_place-from = w.if-noted_place-from }) in
-    let some = c.loop-left-test.true in
-    rw (w.from-is, w.left-is, w.uses-is) (
-      omega arith,
-      omega arith,
-      omega (arith, l.invariant.2, pieces_single file l.left l.from some single),
-      omega (arith, l.invariant.3, ap length (uses_single file l.left l.from some single)),
-      behind_single l.invariant.4 some single,
-      wrote
-          l.invariant.5
-          (item_bytes 2 (record_of file l.from))
-          (pieces_by numbers a.base l.uses file (l.left - 1) (l.from + 5))
-          write.result
-          (by_single numbers a.base file l.uses l.left l.from some single)
-          (write_size _ _ _ ∙ sym write.ensures.0)
-          w.place-is
-          (w.buffer-is ∙ w.put_record.ensures),
-    )
+      | then-noted_place-from w ↦
+          let here : tie.Then-noted_place-from invariant_loop decreases_loop = record { before = c.before; if-noted_place-from = w.if-noted_place-from } in
+          let wave = starts_here here in
+          let records = long here in
+          rw (w.from-is, w.left-is, w.uses-is) (
+            omega arith,
+            omega arith,
+            omega (arith, l.invariant.2, pieces_wave file l.left l.from wave),
+            omega (arith, l.invariant.3, ap length (uses_wave file l.left l.from wave)),
+            behind_wave l.invariant.4 wave,
+            wrote
+                l.invariant.5
+                (item_bytes 2 (Copy (byte file l.from) (be 3 file (l.from + 1)) (a.base + get_or numbers l.uses 0) 0 256))
+                (pieces_by numbers a.base (l.uses + 1) file (l.left - 256) (l.from + 1280))
+                copy.result
+                (by_wave numbers a.base file l.uses l.left l.from wave)
+                (copy_size _ _ _ _ _ ∙ sym copy.ensures.0)
+                w.place-is
+                (w.buffer-is ∙ w.put_wave_copy.ensures),
+          )
+      | else-noted_place-from w ↦
+          let single = starts_not (record { before = c.before; if-noted_place-from = w.if-noted_place-from }) in
+          let some = c.loop-left-test.true in
+          rw (w.from-is, w.left-is, w.uses-is) (
+            omega arith,
+            omega arith,
+            omega (arith, l.invariant.2, pieces_single file l.left l.from some single),
+            omega (arith, l.invariant.3, ap length (uses_single file l.left l.from some single)),
+            behind_single l.invariant.4 some single,
+            wrote
+                l.invariant.5
+                (item_bytes 2 (record_of file l.from))
+                (pieces_by numbers a.base l.uses file (l.left - 1) (l.from + 5))
+                write.result
+                (by_single numbers a.base file l.uses l.left l.from some single)
+                (write_size _ _ _ ∙ sym write.ensures.0)
+                w.place-is
+                (w.buffer-is ∙ w.put_record.ensures),
+          )
     ]
 
 returns : tie.Need-returns invariant_loop decreases_loop

@@ -23,12 +23,12 @@ loop-left-preserved c =
     let is = c.record_at-record.ensures in
     let rest = records_at file (l.left - 1) (l.at + 5) in
     elim c.if-record-eq2.branch [
-      then-record-eq2+else-record-pcm w ↦ (
+      | then-record-eq2+else-record-pcm w ↦ (
         omega arith,
         omega (arith, w.pcm-is),
         l.invariant.2 ∙ pcm_more file l.pcm l.left l.at c.loop-left-test.true (sym is.0 ∙ w.if-record-eq2.true) (sym is.1 ∙ w.if-record-pcm.false) ∙ ap (λ (n : ℕ). pcm_from n rest) (sym w.pcm-is),
       )
-    | else-record-eq2 w ↦ (
+      | else-record-eq2 w ↦ (
         omega arith,
         omega (arith, w.pcm-is),
         l.invariant.2 ∙ pcm_other file l.pcm l.left l.at c.loop-left-test.true (λ e. w.if-record-eq2.false (is.0 ∙ e)) ∙ ap (λ (n : ℕ). pcm_from n rest) (sym w.pcm-is),

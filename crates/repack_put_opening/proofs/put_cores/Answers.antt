@@ -47,10 +47,10 @@ loop-left-preserved c =
     let rest = core_bytes file (l.left - 1) (l.from + 5) in (
       omega arith,
       elim c.if-target-ne2.branch [
-        then-target-ne2 w ↦
-          let is = core_item file l.left l.from more w.if-target-ne2.true in
-          wrote l.invariant.1 (item_bytes 2 (record_of file l.from)) rest write.result is (write_size _ _ _ ∙ sym write.ensures.0) w.place-is (w.buffer-is ∙ w.put_record.ensures)
-      | else-target-ne2 w ↦ told l.invariant.1 rest (core_skip file l.left l.from more w.if-target-ne2.false) w.place-is w.buffer-is
+        | then-target-ne2 w ↦
+            let is = core_item file l.left l.from more w.if-target-ne2.true in
+            wrote l.invariant.1 (item_bytes 2 (record_of file l.from)) rest write.result is (write_size _ _ _ ∙ sym write.ensures.0) w.place-is (w.buffer-is ∙ w.put_record.ensures)
+        | else-target-ne2 w ↦ told l.invariant.1 rest (core_skip file l.left l.from more w.if-target-ne2.false) w.place-is w.buffer-is
       ],
     )
 

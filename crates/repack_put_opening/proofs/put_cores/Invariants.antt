@@ -7,7 +7,7 @@ use Rattle.bytes_put_fields.proofs.Writing.{Writing}
 use Rattle.repack_put_opening.proofs.put_cores.Given as goal
 
 abbrev pub invariant-loop-left : goal.invariant-loop-left
-invariant-loop-left l =    (l.from + l.left * 5 ≤ length l.file) × Writing (core_bytes l.file l.count 20) l.at l.initial.buffer (core_bytes l.file l.left l.from) l.place l.buffer
+invariant-loop-left l = (l.from + l.left * 5 ≤ length l.file) × Writing (core_bytes l.file l.count 20) l.at l.initial.buffer (core_bytes l.file l.left l.from) l.place l.buffer
 
 abbrev pub decreases-loop-left : goal.decreases-loop-left
 decreases-loop-left l = l.left

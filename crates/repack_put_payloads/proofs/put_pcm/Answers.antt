@@ -30,11 +30,11 @@ loop-left-preserved c =
     let rest = pcm_bytes file (l.left - 1) (l.from + 5) in (
       omega arith,
       elim c.if-record-eq2.branch [
-        then-record-eq2 w ↦
-          let one = pcm_byte file l.left l.from more (sym is.0 ∙ w.if-record-eq2.true) in
-          wrote l.invariant.1 (byte file (l.from + 4) ∷ []) rest 1 one refl w.place-is
-          (w.buffer-is ∙ ap (set l.buffer l.place) is.2 ∙ put_byte (byte file (l.from + 4)) l.place l.buffer (omega (arith, ap length one, l.invariant.1.fits)))
-      | else-record-eq2 w ↦ told l.invariant.1 rest (pcm_skip file l.left l.from more (λ e. w.if-record-eq2.false (is.0 ∙ e))) w.place-is w.buffer-is
+        | then-record-eq2 w ↦
+            let one = pcm_byte file l.left l.from more (sym is.0 ∙ w.if-record-eq2.true) in
+            wrote l.invariant.1 (byte file (l.from + 4) ∷ []) rest 1 one refl w.place-is
+            (w.buffer-is ∙ ap (set l.buffer l.place) is.2 ∙ put_byte (byte file (l.from + 4)) l.place l.buffer (omega (arith, ap length one, l.invariant.1.fits)))
+        | else-record-eq2 w ↦ told l.invariant.1 rest (pcm_skip file l.left l.from more (λ e. w.if-record-eq2.false (is.0 ∙ e))) w.place-is w.buffer-is
       ],
     )
 
