@@ -71,17 +71,17 @@ module _ (all : Bool) (master other : List ℕ) where
 
   -- the write at a record counts and agrees, or differs; or it does not count
   module _ (left at target address source step count : ℕ) (some : 0 < left) (some' : 0 < count) where
-    pub matched-next : keeps all (record_write master at).target ≡ true → same_write (record_write master at) (write target address (byte other source)) ≡ true
+    pub matched_next : keeps all (record_write master at).target ≡ true → same_write (record_write master at) (write target address (byte other source)) ≡ true
         → matched all master other left at target address source step count ≡ matched all master other (left - 1) (at + record_size) target (address + 1) (source + step) step (count - 1)
-    matched-next k s = matched_step left at target address source step count some some' ∙ rw (k, s)
+    matched_next k s = matched_step left at target address source step count some some' ∙ rw (k, s)
 
-    pub matched-differs : keeps all (record_write master at).target ≡ true → same_write (record_write master at) (write target address (byte other source)) ≡ false
+    pub matched_differs : keeps all (record_write master at).target ≡ true → same_write (record_write master at) (write target address (byte other source)) ≡ false
         → matched all master other left at target address source step count ≡ run.Differs
-    matched-differs k s = matched_step left at target address source step count some some' ∙ rw (k, s)
+    matched_differs k s = matched_step left at target address source step count some some' ∙ rw (k, s)
 
-    pub matched-skip : keeps all (record_write master at).target ≡ false
+    pub matched_skip : keeps all (record_write master at).target ≡ false
         → matched all master other left at target address source step count ≡ matched all master other (left - 1) (at + record_size) target address source step count
-    matched-skip k = matched_step left at target address source step count some some' ∙ rw k
+    matched_skip k = matched_step left at target address source step count some some' ∙ rw k
 
   -- the records behind are the last ones
   pub matched_place : (left at target address source step count at' left' : ℕ)

@@ -6,7 +6,7 @@ use mathlib.Core.Path.{◌≡◌, refl, sym, ◌∙◌}
 use Rattle.base_format.specs.Size.{record_size}
 use Rattle.compare_segment.specs.Segments.{source_step}
 use Rattle.compare_writes.specs.Match.{matched, matched_segment}
-use Rattle.compare_writes.proofs.Match.{matched_end, matched_short, matched-next, matched-differs, matched-skip}
+use Rattle.compare_writes.proofs.Match.{matched_end, matched_short, matched_next, matched_differs, matched_skip}
 use Rattle.compare_writes.proofs.Records.{counts, equals}
 use Rattle.compare_writes.proofs.run.same_segment.Statement.{statement}
 use Rattle.compare_writes.proofs.run.same_segment.Tie as tie
@@ -45,7 +45,7 @@ loop_again c =
     let is = c.decode_record-item.ensures in
     let kept = counts a.master.now l.at _ _ here is a.all c.is_kept.ensures c.if-is_kept.true in
     let same = equals a.master.now l.at _ _ here is a.other.now g.target l.address l.source c.byte_at-value.ensures c.same_record.ensures c.if-same_record.true in
-    let next = matched-next a.all a.master.now a.other.now l.left l.at g.target l.address l.source (source_step g.copied) l.count (omega arith) c.loop-count-test.true in (
+    let next = matched_next a.all a.master.now a.other.now l.left l.at g.target l.address l.source (source_step g.copied) l.count (omega arith) c.loop-count-test.true in (
       omega arith,
       omega arith,
       omega (arith, c.step_of-step.ensures.1),
@@ -62,7 +62,7 @@ returns_2 c =
     let kept = counts a.master.now l.at _ _ here is a.all c.is_kept.ensures c.if-is_kept.true in
     let same = equals a.master.now l.at _ _ here is a.other.now g.target l.address l.source c.byte_at-value.ensures c.same_record.ensures c.if-same_record.false in
     let some = c.loop-count-test.true in
-    let differs = matched-differs a.all a.master.now a.other.now l.left l.at g.target l.address l.source (source_step g.copied) l.count (omega arith) some in
+    let differs = matched_differs a.all a.master.now a.other.now l.left l.at g.target l.address l.source (source_step g.copied) l.count (omega arith) some in
     sym (l.invariant.3 ∙ differs kept same)
 
 loop_again_2 : tie.Need-loop-count-preserved invariant_loop decreases_loop
@@ -71,7 +71,7 @@ loop_again_2 c =
     let a = c.args in
     let g = a.segment in
     let kept = counts a.master.now l.at _ _ c.item_bytes.ensures c.decode_record-item.ensures a.all c.is_kept.ensures c.if-is_kept.false in
-    let skip = matched-skip a.all a.master.now a.other.now l.left l.at g.target l.address l.source (source_step g.copied) l.count (omega arith) c.loop-count-test.true in
+    let skip = matched_skip a.all a.master.now a.other.now l.left l.at g.target l.address l.source (source_step g.copied) l.count (omega arith) c.loop-count-test.true in
     (omega arith, omega arith, omega arith, l.invariant.3 ∙ skip kept)
 
 returns_3 : tie.Need-returns invariant_loop decreases_loop
