@@ -3,8 +3,7 @@
 #![tactic(auto)]
 
 ghost use Rattle.std.specs.Prelude.{◌≡◌, ◌<◌, IfOk};
-ghost use Rattle.std.specs.Int.{w8};
-ghost use Rattle.std.proofs.Common.{to_z};
+ghost use Rattle.std.specs.Int.{w8, cast_signed};
 
 use pitch_frequency::Pitched;
 use std::fs::File;
@@ -19,12 +18,9 @@ const PLACE: usize = 0;
 
 // A byte as a signed number.
 fn signed(byte: u8) -> i8
-    ensures { result ≡ to_z w8 byte }
+    ensures { result ≡ cast_signed w8 byte }
 {
-    if byte < 128 {
-        return byte as i8;
-    }
-    (byte - 128) as i8 + -128
+    byte.cast_signed()
 }
 
 // Whether an answer is the one that is stored; no pitch is 0.

@@ -73,7 +73,8 @@ pub fn mix_call(file: &[u8], state: StreamPlayer, count: usize, room: usize) -> 
     let mut place = first_place(file, state, count, room);
     let mut turns = place.left;
     while 0 < turns {
-        if place.left == 0 {
+        let over = place.left == 0;
+        if over {
             return mixed;
         }
         let turn = next_segment(file, state, place);

@@ -4,7 +4,7 @@
 
 ghost use Rattle.std.specs.Prelude.{◌≡◌, ◌+◌, ◌*◌, ◌%◌, ◌^◌, ◌<◌, not, take, drop, length, IfOk, OnErr, IsTrue};
 ghost use Rattle.std.specs.Io.KnownBytes.{Consumes};
-ghost use mir.Val.{bool_byte};
+ghost use Rattle.std.specs.Int.{from_bool};
 ghost use Rattle.base_format.specs.Bytes.{be};
 ghost use Rattle.test_vectors.specs.Counts.{CountsWith};
 ghost use Rattle.test_vectors.specs.Front.{ReadFront};
@@ -52,7 +52,7 @@ pub fn add(counts: Counts, same: u64, different: u64) -> Counts
 // The counts behind an entry with one answer.
 pub fn count(counts: Counts, same: bool) -> Counts
     requires { 0 < counts.left }
-    ensures { CountsWith counts (bool_byte same) (bool_byte (not same)) result }
+    ensures { CountsWith counts (from_bool same) (from_bool (not same)) result }
 {
     add(counts, same as u64, !same as u64)
 }
