@@ -251,7 +251,15 @@ fn crates_are_checked_side_by_side() {
     let processors = Command::new("nproc").output().unwrap().stdout;
     let processors = String::from_utf8(processors).unwrap();
     let most: u32 = processors.trim().parse().unwrap();
-    assert!((1..=most).contains(&jobs.parse().unwrap()), "{jobs}");
+    // A check has a processor for itself where the memory allows it.
+    let memory = fs::read_to_string("/proc/meminfo").unwrap();
+    let free = memory
+        .lines()
+        .find_map(|line| line.strip_prefix("MemAvailable:"))
+        .unwrap();
+    let free: u32 = free.trim().trim_end_matches(" kB").parse().unwrap();
+    let least = if free < 6_000_000 { 1 } else { most.min(2) };
+    assert!((least..=most).contains(&jobs.parse().unwrap()), "{jobs}");
 }
 
 #[test]
