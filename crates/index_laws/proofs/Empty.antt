@@ -85,3 +85,22 @@ four_passed file count start left at p some room none none' =
     let all : suc (suc (suc (suc n))) ≡ count - (left - 4) = omega (arith, p.most) in
     let four = two_more file (suc (suc n)) start (at + 4) (two_more file n start at p.empty p.here (omega arith) none) next (omega arith) none' in
     record { most = omega (arith, p.most); here = omega (arith, p.here, p.most); empty = subst (λ (m : ℕ). EmptyFrames file m start) all four }
+
+two_empty : (version : ℕ) (file : List ℕ) (count at : ℕ) → 2 ≤ count → at + 4 ≤ walk_limit file → be 4 file at ≡ 0
+    → frames_walked version file count at ≡ frames_walked version file (count - 2) (at + 4)
+two_empty version file count at some room none =
+    let both = both_empty file at none in
+    let left : count - 1 - 1 ≡ count - 2 = omega arith in
+    let next : at + 2 + 2 ≡ at + 4 = omega arith in
+    one_empty version file count at (omega arith) (omega arith) both.0
+    ∙ one_empty version file (count - 1) (at + 2) (omega arith) (omega arith) both.1
+    ∙ rw (left, next)
+
+pub four_empty : (version : ℕ) (file : List ℕ) (count at : ℕ) → 4 ≤ count → at + 8 ≤ walk_limit file → be 4 file at ≡ 0 → be 4 file (at + 4) ≡ 0
+    → frames_walked version file count at ≡ frames_walked version file (count - 4) (at + 8)
+four_empty version file count at some room none none' =
+    let left : count - 2 - 2 ≡ count - 4 = omega arith in
+    let next : at + 4 + 4 ≡ at + 8 = omega arith in
+    two_empty version file count at (omega arith) (omega arith) none
+    ∙ two_empty version file (count - 2) (at + 4) (omega arith) (omega arith) none'
+    ∙ rw (left, next)

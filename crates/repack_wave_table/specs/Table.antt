@@ -54,7 +54,7 @@ lists_with file t at =
     cond (is_known (waves_in file t.places t.count) (wave_at file at)) t
     (lists (set t.heads bucket (t.count + 1)) (set t.next t.count (get_or t.heads bucket 0)) (set t.places t.count at) (t.count + 1))
 
--- the table after the wave at a place was added, and the wave's number; `lists-are` says all of the lent lists, the rest what follows for the
+-- the table after the wave at a place was added, and the wave's number; `lists_are` says all of the lent lists, the rest what follows for the
 -- waves
 pub record Added (file heads next places : List ℕ) (count at : ℕ) (heads' next' places' : List ℕ) (count' number : ℕ) : Type 0 where
   pub lists_are : lists heads' next' places' count' ≡ lists_with file (lists heads next places count) at
