@@ -18,17 +18,18 @@ returns c =
     let a = o.args in
     rw (c.value_part.ensures, o.window-bytes.ensures) (value_read a.file.now a.directory a.at a.width (omega arith, omega arith) (omega arith) (omega (arith, opcode_is o, c.if-opcode-lt2.true)))
 
-returns_2 : tie.Need-returns-then-opcode-eq2
-returns_2 c =
-    let o = c.before.before.before in
-    let a = o.args in
-    rw (c.copy_part.ensures, o.window-bytes.ensures) (copy_read a.file.now a.directory a.at a.width (omega arith, omega arith) (omega arith) (opcode_is o ∙ c.if-opcode-eq2.true))
-
 returns_3 : tie.Need-returns
 returns_3 c =
     let o = c.before.before.before in
     let a = o.args in
-    rw c.no_span.ensures (sym (no_opcode a.file.now a.directory a.at a.width (omega (arith, opcode_is o, c.if-opcode-lt2.false, c.if-opcode-eq2.false))))
+    rw c.no_span.ensures (sym (no_opcode a.file.now a.directory a.at a.width (omega (arith, opcode_is o))))
 
 pub quick_span_spec : {M : Type 1} → statement M
-quick_span_spec = tie.close (tie.spec (search rules) (search rules) (search rules) returns (search rules) returns_2 (search rules) returns_3)
+quick_span_spec =
+    tie.close
+    (tie.spec (search rules) (search rules) (search rules) returns (search rules)
+    (λ c.
+    let o = c.before.before.before in
+    let a = o.args in
+    rw (c.copy_part.ensures, o.window-bytes.ensures) (copy_read a.file.now a.directory a.at a.width (omega arith, omega arith) (omega arith) (omega (arith, opcode_is o))))
+    (search rules) returns_3)

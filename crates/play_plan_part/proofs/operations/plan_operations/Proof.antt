@@ -39,23 +39,6 @@ returns_2 c =
       rw c.answer-then-started.ensures (λ e. (refl, refl)),
     )
 
-returns_3 : tie.Need-returns-then-free-rest invariant_loop decreases_loop
-returns_3 c =
-    let a = c.args in
-    let p = placed a.progress c.loop-left.cursor c.loop-left.operations c.loop-left.writes c.loop-left.waves in (
-      rw (
-        c.loop-left.invariant.2,
-        planned_operations_25 a.state a.file.now a.limit c.loop-left.left c.loop-left.free p (omega arith) (omega arith),
-        ← c.start_item-started.ensures.0,
-        c.if-started.false,
-        lt-ltb _ _ c.if-free-rest.true,
-        c.answer-then-free-rest.ensures,
-        c.placed-then-free-rest.ensures,
-      ),
-      rw c.answer-then-free-rest.ensures (omega arith),
-      rw c.answer-then-free-rest.ensures (λ e. absurd (false≢true e)),
-    )
-
 loop_less : tie.Need-loop-left-smaller invariant_loop decreases_loop
 loop_less c = omega arith
 
@@ -66,7 +49,7 @@ loop_again c =
     let p = placed a.progress turn.cursor turn.operations turn.writes turn.waves in (
       omega arith,
       omega arith,
-      rw (turn.invariant.2, planned_operations_25 a.state a.file.now a.limit turn.left turn.free p (omega arith) (omega arith), ← c.start_item-started.ensures.0, c.if-started.false, le-ltb _ _ c.if-free-rest.false),
+      rw (turn.invariant.2, planned_operations_25 a.state a.file.now a.limit turn.left turn.free p (omega arith) (omega arith), ← c.start_item-started.ensures.0, c.if-started.false, le-ltb turn.free c.start_item-started.result.rest (omega arith)),
     )
 
 returns_4 : tie.Need-returns invariant_loop decreases_loop
@@ -82,4 +65,20 @@ pub plan_operations_spec : {M : Type 1} → statement M
 plan_operations_spec =
     tie.close
     (tie.spec invariant_loop decreases_loop (search rules) loop_holds (search rules) (search rules) returns (search rules) (search rules) returns_2 (search rules) (search rules) (search rules)
-    (search rules) (search rules) returns_3 (search rules) (search rules) (search rules) (search rules) loop_less loop_again (search rules) (search rules) returns_4)
+    (search rules) (search rules)
+    (λ c.
+    let a = c.args in
+    let p = placed a.progress c.loop-left.cursor c.loop-left.operations c.loop-left.writes c.loop-left.waves in (
+      rw (
+        c.loop-left.invariant.2,
+        planned_operations_25 a.state a.file.now a.limit c.loop-left.left c.loop-left.free p (omega arith) (omega arith),
+        ← c.start_item-started.ensures.0,
+        c.if-started.false,
+        lt-ltb c.loop-left.free c.start_item-started.result.rest (omega arith),
+        c.answer-then-free-rest.ensures,
+        c.placed-then-free-rest.ensures,
+      ),
+      rw c.answer-then-free-rest.ensures (omega arith),
+      rw c.answer-then-free-rest.ensures (λ e. absurd (false≢true e)),
+    ))
+    (search rules) (search rules) (search rules) (search rules) loop_less loop_again (search rules) (search rules) returns_4)
