@@ -23,23 +23,21 @@ given file bytes at width item b w e = e ∙ ap₂ decoded_operation w b
 sub_t10 : tie.Need-overflow_sub-result
 sub_t10 c =
     let width = c.address_width.ensures in
-    let known : c.decode_operation-item.result.opcode ≤ 2 = omega (arith, c.if-item-lt2.true) in
+    let known : c.decode_operation-item.result.opcode ≤ 2 = omega arith in
     let some = size_some _ _ width.1 width.2 (rw c.decode_operation-item.ensures.0 at known) in
     omega (arith, rw (← c.decode_operation-item.ensures.0) at some)
-
-returns : tie.Need-returns-then-item-lt2
-unfolding segment_at
-returns c =
-    let a = c.args in
-    let is = given a.file.now _ a.at _ _ c.item_bytes.ensures c.address_width.ensures.0 c.decode_operation-item.ensures.0 in
-    (rw (← is, lt-ltb _ _ c.if-item-lt2.true), omega arith)
 
 returns_2 : tie.Need-returns
 unfolding segment_at
 returns_2 c =
     let a = c.args in
     let is = given a.file.now _ a.at _ _ c.item_bytes.ensures c.address_width.ensures.0 c.decode_operation-item.ensures.0 in
-    (rw (← is, le-ltb _ _ c.if-item-lt2.false, ← c.copy_source-source.ensures.0), omega (arith, c.copy_source-source.ensures.1))
+    (rw (← is, le-ltb c.decode_operation-item.result.opcode 2 (omega arith), ← c.copy_source-source.ensures.0), omega (arith, c.copy_source-source.ensures.1))
 
 pub segment_at_spec : {M : Type 1} → statement M
-segment_at_spec = tie.close (tie.spec (search rules) (search rules) (search rules) (search rules) sub_t10 returns (search rules) returns_2)
+unfolding segment_at
+segment_at_spec =
+    tie.close
+    (tie.spec (search rules) (search rules) (search rules) (search rules) sub_t10
+    (λ c. let is = given c.args.file.now _ c.args.at _ _ c.item_bytes.ensures c.address_width.ensures.0 c.decode_operation-item.ensures.0 in
+    (rw (← is, lt-ltb c.decode_operation-item.result.opcode 2 (omega arith)), omega arith)) (search rules) returns_2)

@@ -1,5 +1,6 @@
 -- `compare_images::master::play_record` meets its contract: a record to another target, or past the image's end, leaves it as it is.
 use borrow.Author.Rules.{rules}
+use native.Mathlib.Omega.{arith}
 use Prim.Native.Nat.{ℕ}
 use mathlib.Core.Path.{◌≡◌, sym, ap, ◌∙◌}
 use mathlib.Core.List.{List, [], ◌∷◌}
@@ -29,21 +30,19 @@ module _ (image file : List ℕ) (at : ℕ) (bytes : List ℕ) (item : Decoded) 
   plays e =
       sym (item_plays ∙ ap (λ (t : ℕ). played image (write t item.address item.value ∷ [])) e ∙ write_in image item.address item.value)
 
-returns : tie.Need-returns-then-item-ne2
-returns c =
-    let a = c.args in
-    another a.image.now a.file.now a.at _ _ c.item_bytes.ensures c.decode_record-item.ensures c.if-item-ne2.true
-
 returns_2 : tie.Need-returns-then-image-address
 returns_2 c =
     let a = c.args in
     sym (set_out a.image.now _ _ c.if-image-address.true)
-    ∙ plays a.image.now a.file.now a.at _ _ c.item_bytes.ensures c.decode_record-item.ensures c.if-item-ne2.false
+    ∙ plays a.image.now a.file.now a.at _ _ c.item_bytes.ensures c.decode_record-item.ensures (omega arith)
 
 returns_3 : tie.Need-returns
 returns_3 c =
     let a = c.args in
-    plays a.image.now a.file.now a.at _ _ c.item_bytes.ensures c.decode_record-item.ensures c.if-item-ne2.false
+    plays a.image.now a.file.now a.at _ _ c.item_bytes.ensures c.decode_record-item.ensures (omega arith)
 
 pub play_record_spec : {M : Type 1} → statement M
-play_record_spec = tie.close (tie.spec (search rules) (search rules) returns (search rules) returns_2 (search rules) (search rules) returns_3)
+play_record_spec =
+    tie.close
+    (tie.spec (search rules) (search rules)
+    (λ c. another c.args.image.now c.args.file.now c.args.at _ _ c.item_bytes.ensures c.decode_record-item.ensures (omega arith)) (search rules) returns_2 (search rules) (search rules) returns_3)

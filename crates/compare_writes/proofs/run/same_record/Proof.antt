@@ -4,14 +4,11 @@ use borrow.Author.Tests.{eq-eqb, ne_eqb}
 use Rattle.compare_writes.proofs.run.same_record.Statement.{statement}
 use Rattle.compare_writes.proofs.run.same_record.Tie as tie
 
-returns : tie.Need-returns-then-item-target
-returns c = simp (ne_eqb _ _ c.if-item-target.true)
-
 returns_2 : tie.Need-returns-then-item-address
-returns_2 c = simp (eq-eqb _ _ c.if-item-target.false, ne_eqb _ _ c.if-item-address.true)
+returns_2 c = simp (eq-eqb c.args.item.target c.args.target (omega arith), ne_eqb _ _ c.if-item-address.true)
 
 returns_3 : tie.Need-returns
-returns_3 c = rw (eq-eqb _ _ c.if-item-target.false, eq-eqb _ _ c.if-item-address.false)
+returns_3 c = rw (eq-eqb c.args.item.target c.args.target (omega arith), eq-eqb _ _ c.if-item-address.false)
 
 pub same_record_spec : {M : Type 1} → statement M
-same_record_spec = tie.close (tie.spec returns (λ c. omega arith) returns_2 returns_3)
+same_record_spec = tie.close (tie.spec (λ c. simp (ne_eqb c.args.item.target c.args.target (omega arith))) (λ c. omega arith) returns_2 returns_3)
