@@ -74,7 +74,8 @@ pub fn check_frames(
         let count = read_u16(file, next.at) as u32;
         let run = frame_run(file, version, pools, directory, table, count, next.at + 2);
         seen = either(seen, run.si22);
-        if run.left == 0 {
+        let quick = run.left == 0;
+        if quick {
             at = run.at;
         } else {
             match check_operations(file, header, cards, file.len(), run.left, run.at) {

@@ -4,13 +4,6 @@ use Rattle.base_format.proofs.Decided.{decided}
 use Rattle.bytes_operation_size.proofs.address_width.Statement.{statement}
 use Rattle.bytes_operation_size.proofs.address_width.Tie as tie
 
-returns : tie.Need-returns-then-version-le2
-unfolding address_width
-returns c = search decided
-
-returns_2 : tie.Need-returns
-unfolding address_width
-returns_2 c = search decided
-
 pub address_width_spec : {M : Type 1} → statement M
-address_width_spec = tie.close (tie.spec returns returns_2)
+unfolding address_width
+address_width_spec = tie.close (tie.spec (λ c. search decided) (λ c. search decided))

@@ -25,11 +25,6 @@ returns c =
     let file = c.args.file.now in
     rw (c.loop-left.invariant, skip_stops file c.loop-left.left c.loop-left.at (rw (sym c.count_cut_off.ensures ∙ c.if-count_cut_off.true, or-true)) (omega arith))
 
-returns_2 : tie.Need-returns-then-read_u16-ne0 invariant_loop decreases_loop
-returns_2 c =
-    let file = c.args.file.now in
-    rw (c.loop-left.invariant, skip_stops file c.loop-left.left c.loop-left.at (rw (← c.read_u16.ensures, ne_eqb _ _ c.if-read_u16-ne0.true, or-true)) (omega arith))
-
 add_at : tie.Need-overflow_add-at invariant_loop decreases_loop
 add_at c =
     let file = c.args.file.now in
@@ -38,11 +33,12 @@ add_at c =
 loop_again : tie.Need-loop-left-preserved invariant_loop decreases_loop
 loop_again c =
     let file = c.args.file.now in
-    rw c.loop-left.invariant (skip_step file c.loop-left.left c.loop-left.at c.loop-left-test.true (sym c.count_cut_off.ensures ∙ c.if-count_cut_off.false) (sym c.read_u16.ensures ∙ c.if-read_u16-ne0.false))
+    let none : c.read_u16.result ≡ 0 = omega arith in
+    rw c.loop-left.invariant (skip_step file c.loop-left.left c.loop-left.at c.loop-left-test.true (sym c.count_cut_off.ensures ∙ c.if-count_cut_off.false) (sym c.read_u16.ensures ∙ none))
 
 returns_3 : tie.Need-returns invariant_loop decreases_loop
 returns_3 c =
     rw c.loop-left.invariant (sym (skip_last c.args.file.now c.loop-left.left c.loop-left.at (omega arith)))
 
 pub skip_empty_spec : {M : Type 1} → statement M
-skip_empty_spec = tie.close (tie.spec invariant_loop decreases_loop loop_holds (search rules) returns (search rules) returns_2 add_at (search rules) (search rules) loop_again returns_3)
+skip_empty_spec = tie.close (tie.spec invariant_loop decreases_loop loop_holds (search rules) returns (search rules) (λ c. rw (c.loop-left.invariant, skip_stops c.args.file.now c.loop-left.left c.loop-left.at (rw (← c.read_u16.ensures, ne_eqb c.read_u16.result 0 (omega arith), or-true)) (omega arith))) add_at (search rules) (search rules) loop_again returns_3)

@@ -21,7 +21,7 @@ use Rattle.check_frames.specs.Frames.{frames_said}
 use Rattle.check_frames.proofs.Empty.{Skipped, skip}
 use Rattle.check_frames.proofs.FrameWalk.{frames_step, frames_end_lem}
 use Rattle.check_frames.proofs.frames.check_frames.Statement.{statement}
-use Rattle.check_frames.proofs.frames.check_frames.Lts.{then-run-eq0, else-run-eq0+in-End}
+use Rattle.check_frames.proofs.frames.check_frames.Lts.{then-quick, else-quick+in-End}
 use Rattle.check_frames.proofs.frames.check_frames.Tie as tie
 
 abbrev invariant_loop : tie.invariant-loop-left
@@ -115,9 +115,9 @@ loop_again c =
     let f = c.before.before.before.before in
     let s = f.args in
     let run = f.frame_run-run.result in
-    elim c.if-run-eq0.branch [
-      | then-run-eq0 w ↦ rw (w.at-is, w.seen-is, step f, w.if-run-eq0.true, walk_end run.si22 (setting_of s.file.now s.header s.cards) s.file.now (length s.file.now) run.at, c.either-seen.ensures)
-      | else-run-eq0+in-End w ↦
+    elim c.if-quick.branch [
+      | then-quick w ↦ rw (w.at-is, w.seen-is, step f, w.if-quick.true, walk_end run.si22 (setting_of s.file.now s.header s.cards) s.file.now (length s.file.now) run.at, c.either-seen.ensures)
+      | else-quick+in-End w ↦
           rw (w.at-is, w.seen-is, slow f w.check_operations.result w.check_operations.ensures, w.in-End.is, w.either-seen-in-End.ensures, c.either-seen.ensures)
           (ap (frames_said _ _ _ _) (sym (or_assoc f.loop-left.seen run.si22 w.in-End.si22)))
     ]
