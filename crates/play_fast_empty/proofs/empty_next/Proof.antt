@@ -12,12 +12,7 @@ use Rattle.play_fast_empty.proofs.empty_next.Tie as tie
 returns_2 : tie.Need-returns-then-passes
 unfolding empty_next
 returns_2 c =
-    simp (eq-eqb _ _ c.if-next-ne-FRAME.false, ← c.passes.ensures, c.if-passes.true, ← c.no_empty-then-passes.ensures)
-
-returns_3 : tie.Need-returns-then-read_u16-ne0
-unfolding empty_next
-returns_3 c =
-    simp (eq-eqb _ _ c.if-next-ne-FRAME.false, ← c.passes.ensures, c.if-passes.false, ← c.read_u16.ensures, ne_eqb _ _ c.if-read_u16-ne0.true, ← c.no_empty-then-read_u16-ne0.ensures)
+    simp (eq-eqb c.args.next.part 2 (omega arith), ← c.passes.ensures, c.if-passes.true, ← c.no_empty-then-passes.ensures)
 
 add_between_at : tie.Need-overflow_add-place
 add_between_at c =
@@ -27,11 +22,11 @@ add_between_at c =
 returns_4 : tie.Need-returns
 unfolding empty_next
 returns_4 c =
-    simp (eq-eqb _ _ c.if-next-ne-FRAME.false, ← c.passes.ensures, c.if-passes.false, ← c.read_u16.ensures, eq-eqb _ _ c.if-read_u16-ne0.false, ← c.between_at.ensures)
+    simp (eq-eqb c.args.next.part 2 (omega arith), ← c.passes.ensures, c.if-passes.false, ← c.read_u16.ensures, eq-eqb c.read_u16.result 0 (omega arith), ← c.between_at.ensures)
 
 pub empty_next_spec : {M : Type 1} → statement M
 unfolding empty_next
 empty_next_spec =
     tie.close
-    (tie.spec (search rules) (λ c. simp (ne_eqb _ _ c.if-next-ne-FRAME.true, ← c.no_empty.ensures)) (search rules) (search rules) returns_2 (search rules) (search rules) returns_3
+    (tie.spec (search rules) (λ c. simp (ne_eqb c.args.next.part 2 (omega arith), ← c.no_empty.ensures)) (search rules) (search rules) returns_2 (search rules) (search rules) (λ c. simp (eq-eqb c.args.next.part 2 (omega arith), ← c.passes.ensures, c.if-passes.false, ← c.read_u16.ensures, ne_eqb c.read_u16.result 0 (omega arith), ← c.no_empty-then-read_u16-ne0.ensures))
     add_between_at (search rules) (search rules) returns_4)

@@ -11,11 +11,6 @@ use Rattle.play_fast_fill.specs.Fills.{fill_count}
 use Rattle.play_fast_fill.proofs.fill_count.Statement.{statement}
 use Rattle.play_fast_fill.proofs.fill_count.Tie as tie
 
-returns_2 : tie.Need-returns-then-target-gt15
-unfolding fill_count decoded_operation
-returns_2 c =
-    simp (← c.opcode_in-opcode.ensures, ← c.target_in-target.ensures, le-ltb _ _ c.if-opcode-gt1.false, lt-ltb _ _ c.if-target-gt15.true)
-
 -- the definition where the first two tests let it pass, over the numbers that were read
 read : (c : tie.After-out_of_bulk) → (
     let s = c.args in
@@ -23,14 +18,14 @@ read : (c : tie.After-out_of_bulk) → (
 unfolding fill_count decoded_operation
 read c =
     let s = c.args in
-    let low : byte s.bytes.now 0 ≤ 1 = rw (← c.opcode_in-opcode.ensures) c.if-opcode-gt1.false in
+    let low : byte s.bytes.now 0 ≤ 1 = rw (← c.opcode_in-opcode.ensures) (omega arith) in
     rw (
       ← (c.fill_length_in-count.ensures ∙ fill_length_lem s.width s.bytes.now low),
       ← c.address_in-address.ensures,
       ← c.target_in-target.ensures,
       ← c.opcode_in-opcode.ensures,
-      le-ltb _ _ c.if-opcode-gt1.false,
-      le-ltb _ _ c.if-target-gt15.false,
+      le-ltb 1 c.opcode_in-opcode.result (omega arith),
+      le-ltb 15 c.target_in-target.result (omega arith),
       ← c.out_of_bulk.ensures,
     )
 
@@ -38,6 +33,6 @@ pub fill_count_spec : {M : Type 1} → statement M
 unfolding fill_count decoded_operation
 fill_count_spec =
     tie.close
-    (tie.spec (λ c. omega arith) (λ c. omega arith) (λ c. simp (← c.opcode_in-opcode.ensures, lt-ltb _ _ c.if-opcode-gt1.true)) returns_2 (λ c. omega arith) (λ c. omega arith) (λ c. omega arith)
+    (tie.spec (λ c. omega arith) (λ c. omega arith) (λ c. simp (← c.opcode_in-opcode.ensures, lt-ltb 1 c.opcode_in-opcode.result (omega arith))) (λ c. simp (← c.opcode_in-opcode.ensures, ← c.target_in-target.ensures, le-ltb 1 c.opcode_in-opcode.result (omega arith), lt-ltb 15 c.target_in-target.result (omega arith))) (λ c. omega arith) (λ c. omega arith) (λ c. omega arith)
     (λ c. omega arith) (λ c. omega arith) (λ c. omega arith) (λ c. omega arith) (λ c. omega arith) (λ c. omega arith) (λ c. omega arith) (λ c. omega arith) (λ c. rw (read c.before, c.if-out_of_bulk.true))
     (λ c. rw (read c.before, c.if-out_of_bulk.false)))

@@ -1,7 +1,7 @@
 -- `play_fast_fill::fills_from` meets its contract. The invariant: the walk from the start is the walk from where the loop is.
 use native.Mathlib.Omega.{arith}
 use borrow.Author.Tests.{ne_eqb, le-leb, lt-leb, le-ltb, lt-ltb, ltb-false}
-use Prim.Native.Nat.{ℕ, ◌+◌, ◌≤◌}
+use Prim.Native.Nat.{ℕ, ◌+◌, ◌-◌, ◌≤◌}
 use mathlib.Core.Path.{◌≡◌, refl, sym, ◌∙◌}
 use mathlib.Core.Bool.{true, false}
 use lib.Dec.{leb}
@@ -70,13 +70,6 @@ returns_3 c =
     let none : leb (count_on l) l.loop-others.done ≡ true = rw (said q, le-leb _ _ c.if-count-done.true) in
     rw (l.loop-others.invariant, fills_none a.file.now a.width a.starts.now a.ends.now a.limit l.loop-others.others l.loop-others.free l.loop-others.at l.loop-others.done (omega arith) (omega arith) none) c.stopped_at-then-count-done.ensures
 
-returns_4 : tie.Need-returns-then-free-rest invariant_loop decreases_loop
-returns_4 c =
-    let e = c.before.before in
-    let a = e.args in
-    let step = fills_step a.file.now a.width a.starts.now a.ends.now a.limit e.loop-others.others e.loop-others.free e.loop-others.at e.loop-others.done (omega arith) (omega arith) (taken e) in
-    rw (e.loop-others.invariant, step, said e.before, lt-ltb _ _ c.if-free-rest.true) c.stopped_at-then-free-rest.ensures
-
 add_at : tie.Need-overflow_add-at invariant_loop decreases_loop
 add_at c = omega (arith, whole c.before.before.before.before.before, c.fill_size_in-at.ensures.1)
 
@@ -94,7 +87,7 @@ loop_again c =
     let a = e.args in
     let step = fills_step a.file.now a.width a.starts.now a.ends.now a.limit e.loop-others.others e.loop-others.free e.loop-others.at e.loop-others.done (omega arith) (omega arith) (taken e) in
     let sized = c.fill_size_in-at.ensures.0 ∙ fill_size_lem a.width e.window-bytes.result.now (low e) (omega arith) (omega arith) in
-    rw (e.loop-others.invariant, step, said e.before, le-ltb _ _ c.if-free-rest.false, sized, e.window-bytes.ensures)
+    rw (e.loop-others.invariant, step, said e.before, le-ltb e.loop-others.free (e.fill_count-count.result - e.loop-others.done) (omega arith), sized, e.window-bytes.ensures)
 
 returns_5 : tie.Need-returns invariant_loop decreases_loop
 returns_5 c =
@@ -106,4 +99,7 @@ pub fills_from_spec : {M : Type 1} → statement M
 fills_from_spec =
     tie.close
     (tie.spec invariant_loop decreases_loop loop_holds (λ c. omega arith) returns (λ c. omega arith) (λ c. omega arith) returns_2 window_requires (λ c. omega arith) (λ c. omega arith) returns_3 (λ c. omega arith) (λ c. omega arith)
-    (λ c. omega arith) (λ c. omega arith) (λ c. omega arith) returns_4 (λ c. omega arith) (λ c. omega arith) (λ c. omega arith) add_at (λ c. omega arith) (λ c. omega arith) loop_again (λ c. omega arith) returns_5)
+    (λ c. omega arith) (λ c. omega arith) (λ c. omega arith) (λ c. let e = c.before.before in
+    let a = e.args in
+    let step = fills_step a.file.now a.width a.starts.now a.ends.now a.limit e.loop-others.others e.loop-others.free e.loop-others.at e.loop-others.done (omega arith) (omega arith) (taken e) in
+    rw (e.loop-others.invariant, step, said e.before, lt-ltb e.loop-others.free (e.fill_count-count.result - e.loop-others.done) (omega arith)) c.stopped_at-then-free-rest.ensures) (λ c. omega arith) (λ c. omega arith) (λ c. omega arith) add_at (λ c. omega arith) (λ c. omega arith) loop_again (λ c. omega arith) returns_5)

@@ -5,13 +5,9 @@ use mathlib.Core.Path.{refl}
 use Rattle.play_plan_taken.proofs.taken.ended.Statement.{statement}
 use Rattle.play_plan_taken.proofs.taken.ended.Tie as tie
 
-returns : tie.Need-returns-then-operations_left-ne0
-returns c =
-    (rw (← c.operations_left.ensures.0, ne_eqb _ _ c.if-operations_left-ne0.true), refl)
-
 returns_2 : tie.Need-returns
 returns_2 c =
-    (rw (← c.operations_left.ensures.0, eq-eqb _ _ c.if-operations_left-ne0.false, c.frame_ended-over.ensures), refl)
+    (rw (← c.operations_left.ensures.0, eq-eqb c.operations_left.result 0 (omega arith), c.frame_ended-over.ensures), refl)
 
 pub ended_spec : {M : Type 1} → statement M
-ended_spec = tie.close (tie.spec (λ c. omega arith) returns (λ c. omega arith) returns_2)
+ended_spec = tie.close (tie.spec (λ c. omega arith) (λ c. (rw (← c.operations_left.ensures.0, ne_eqb c.operations_left.result 0 (omega arith)), refl)) (λ c. omega arith) returns_2)
