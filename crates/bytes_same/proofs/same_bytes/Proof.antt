@@ -19,11 +19,6 @@ abbrev decreases_loop : tie.decreases-loop-i
 decreases_loop a b i₀ i =
     length a - i
 
-returns : tie.Need-returns-then-a-b invariant_loop decreases_loop
-returns c =
-    let a = c.before.args in
-    sym (bytes_differ a.a.now a.b.now c.if-a-b.true)
-
 shared_slice_read_if2_2 : tie.Need-bounds-b-i invariant_loop decreases_loop
 shared_slice_read_if2_2 c =
     let l = c.before.before.before.loop-i in
@@ -50,4 +45,4 @@ returns_3 c =
 pub same_bytes_spec : {M : Type 1} → statement M
 same_bytes_spec =
     tie.close
-    (tie.spec invariant_loop decreases_loop returns (λ c. (c.if-a-b.false, omega arith, refl)) (search rules) shared_slice_read_if2_2 returns_2 (search rules) (search rules) loop_again returns_3)
+    (tie.spec invariant_loop decreases_loop (λ c. let a = c.before.args in sym (bytes_differ a.a.now a.b.now (omega arith))) (λ c. (omega arith, omega arith, refl)) (search rules) shared_slice_read_if2_2 returns_2 (search rules) (search rules) loop_again returns_3)

@@ -11,10 +11,6 @@ returns : tie.Need-returns-then-missing
 unfolding copy_rules
 returns c = search (decided, ← c.missing.ensures, c.if-missing.true)
 
-returns_2 : tie.Need-returns-then-version-eq4
-unfolding copy_rules
-returns_2 c = search (decided, ← c.missing.ensures, c.if-missing.false, ← c.outside.ensures, c.if-outside.true)
-
 returns_3 : tie.Need-returns-then-pools-number
 unfolding copy_rules
 returns_3 c = search (decided, ← c.missing.ensures, c.if-missing.false, ← c.outside.ensures, c.if-outside.true)
@@ -48,4 +44,5 @@ returns_7 c =
     search (decided, ← c.missing.ensures, c.if-missing.false, ← c.outside.ensures, c.if-outside.false, and-false, ← c.read_pool-pool.ensures, ← c.copy_wrong.ensures, c.if-copy_wrong.false)
 
 pub check_copy_spec : {M : Type 1} → statement M
-check_copy_spec = tie.close (tie.spec (search rules) returns (search rules) returns_2 returns_3 returns_4 returns_5 (search rules) (search rules) returns_6 returns_7)
+unfolding copy_rules
+check_copy_spec = tie.close (tie.spec (search rules) returns (search rules) (λ c. search (decided, ← c.missing.ensures, c.if-missing.false, ← c.outside.ensures, c.if-outside.true)) returns_3 returns_4 returns_5 (search rules) (search rules) returns_6 returns_7)

@@ -15,10 +15,10 @@ returns_5 : tie.Need-returns
 unfolding counts_wrong
 returns_5 c =
     rw (
-      ne_eqb _ _ c.if-header-eq0.false,
-      le-ltb _ _ c.if-header-gt-FILE_LIMIT.false,
+      ne_eqb c.args.header.frame_count 0 (omega arith),
+      le-ltb 14680064 c.args.header.total_size (omega arith),
       eq-eqb _ _ c.if-header-length.false,
-      le-ltb _ _ c.if-header-gt65536.false,
+      le-ltb 65536 c.args.header.pool_count (omega arith),
       ← c.header_size.ensures,
     )
 
@@ -26,5 +26,5 @@ pub counts_wrong_spec : {M : Type 1} → statement M
 unfolding counts_wrong
 counts_wrong_spec =
     tie.close
-    (tie.spec (λ c. simp (eq-eqb _ _ c.if-header-eq0.true)) (λ c. simp (lt-ltb _ _ c.if-header-gt-FILE_LIMIT.true, or-true)) (search rules) (λ c. simp (ne_eqb _ _ c.if-header-length.true, or-true))
-    (λ c. simp (lt-ltb _ _ c.if-header-gt65536.true, or-true)) (search rules) (search rules) (search rules) add_behind (search rules) returns_5)
+    (tie.spec (λ c. simp (eq-eqb c.args.header.frame_count 0 (omega arith))) (λ c. simp (lt-ltb 14680064 c.args.header.total_size (omega arith), or-true)) (search rules) (λ c. simp (ne_eqb _ _ c.if-header-length.true, or-true))
+    (λ c. simp (lt-ltb 65536 c.args.header.pool_count (omega arith), or-true)) (search rules) (search rules) (search rules) add_behind (search rules) returns_5)
