@@ -3,6 +3,8 @@
 use borrow.Author.Rules.{rules}
 use borrow.Author.Tests.{le-ltb, lt-ltb}
 use native.Mathlib.Omega.{arith}
+use mathlib.Core.Bool.{true, false}
+use mathlib.Core.Path.{◌≡◌}
 use Prim.Native.Nat.{◌≤◌}
 use Rattle.base_format.specs.Card.{cards_of}
 use Rattle.play_fast_fill.proofs.Steps.{fills_fewer}
@@ -18,11 +20,6 @@ returns_2 : tie.Need-returns-then-opcode-gt1
 unfolding fill_step
 returns_2 c =
     simp (c.if-playing.false, ← c.byte_at-opcode.ensures, lt-ltb _ _ c.if-opcode-gt1.true, ← c.no_step-then-opcode-gt1.ensures)
-
-returns_3 : tie.Need-returns-then-not-fills
-unfolding fill_step
-returns_3 c =
-    simp (c.if-playing.false, ← c.byte_at-opcode.ensures, le-ltb _ _ c.if-opcode-gt1.false, ← c.operations_left-left.ensures.0, ← c.take_fills-fills.ensures, c.if-not-fills.true, ← c.no_step-then-not-fills.ensures)
 
 fewer : (c : tie.After-struct_known-2-1)
     → (c.take_fills-fills.result.left ≤ c.operations_left-left.result)
@@ -40,9 +37,12 @@ step_to_requires c κs = omega (arith, (fewer c).0, c.operations_left-left.ensur
 returns_4 : tie.Need-returns
 unfolding fill_step
 returns_4 c =
-    simp (c.if-playing.false, ← c.byte_at-opcode.ensures, le-ltb _ _ c.if-opcode-gt1.false, ← c.operations_left-left.ensures.0, ← c.take_fills-fills.ensures, c.if-not-fills.false, ← c.step_to.ensures)
+    let yes : c.take_fills-fills.result.taken ≡ true = search rules in
+    simp (c.if-playing.false, ← c.byte_at-opcode.ensures, le-ltb _ _ c.if-opcode-gt1.false, ← c.operations_left-left.ensures.0, ← c.take_fills-fills.ensures, yes, ← c.step_to.ensures)
 
 pub fill_step_spec : {M : Type 1} → statement M
+unfolding fill_step
 fill_step_spec =
     tie.close
-    (tie.spec (search rules) returns (search rules) (search rules) returns_2 (search rules) (search rules) (search rules) returns_3 sub_count step_to_requires returns_4)
+    (tie.spec (search rules) returns (search rules) (search rules) returns_2 (search rules) (search rules) (search rules) (λ c. let no : c.take_fills-fills.result.taken ≡ false = search rules in
+    simp (c.if-playing.false, ← c.byte_at-opcode.ensures, le-ltb _ _ c.if-opcode-gt1.false, ← c.operations_left-left.ensures.0, ← c.take_fills-fills.ensures, no, ← c.no_step-then-not-fills.ensures)) sub_count step_to_requires returns_4)

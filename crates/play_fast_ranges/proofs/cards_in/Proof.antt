@@ -5,11 +5,8 @@ use borrow.Author.Tests.{eq-eqb, ne_eqb}
 use Rattle.play_fast_ranges.proofs.cards_in.Statement.{statement}
 use Rattle.play_fast_ranges.proofs.cards_in.Tie as tie
 
-returns : tie.Need-returns-then-version-ne4
-returns c = (rw (ne_eqb _ _ c.if-version-ne4.true), omega arith)
-
 returns_2 : tie.Need-returns
-returns_2 c = (rw (eq-eqb _ _ c.if-version-ne4.false) c.held.ensures, omega (arith, c.held.ensures))
+returns_2 c = (rw (eq-eqb c.args.version 4 (omega arith)) c.held.ensures, omega (arith, c.held.ensures))
 
 pub cards_in_spec : {M : Type 1} → statement M
-cards_in_spec = tie.close (tie.spec returns (search rules) returns_2)
+cards_in_spec = tie.close (tie.spec (λ c. (rw (ne_eqb c.args.version 4 (omega arith)), omega arith)) (search rules) returns_2)

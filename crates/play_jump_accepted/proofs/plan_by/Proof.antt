@@ -1,5 +1,6 @@
 -- `plan_by` makes the definition's tests in its order.
 use borrow.Author.Rules.{rules}
+use native.Mathlib.Omega.{arith}
 use borrow.Author.Tests.{eq-eqb, ne_eqb, lt-ltb, le-ltb}
 use Rattle.play_jump_accepted.specs.Told.{jumped_by}
 use Rattle.play_jump_accepted.proofs.plan_by.Statement.{statement}
@@ -14,11 +15,6 @@ unfolding jumped_by
 returns_2 c =
     rw (c.refused_jump-then-other_index.ensures, ← c.jump_foreign.ensures, c.if-jump_foreign.false, ← c.other_index.ensures, c.if-other_index.true)
 
-returns_3 : tie.Need-returns-then-frame-eq0
-unfolding jumped_by
-returns_3 c =
-    rw (c.refused_jump-then-frame-eq0.ensures, ← c.jump_foreign.ensures, c.if-jump_foreign.false, ← c.other_index.ensures, c.if-other_index.false, eq-eqb _ _ c.if-frame-eq0.true)
-
 returns_4 : tie.Need-returns-then-header-frame
 unfolding jumped_by
 returns_4 c =
@@ -28,7 +24,7 @@ returns_4 c =
       c.if-jump_foreign.false,
       ← c.other_index.ensures,
       c.if-other_index.false,
-      ne_eqb _ _ c.if-frame-eq0.false,
+      ne_eqb c.args.frame 0 (omega arith),
       lt-ltb _ _ c.if-header-frame.true,
     )
 
@@ -43,12 +39,13 @@ returns_5 c =
       c.if-jump_foreign.false,
       ← c.other_index.ensures,
       c.if-other_index.false,
-      ne_eqb _ _ c.if-frame-eq0.false,
+      ne_eqb c.args.frame 0 (omega arith),
       le-ltb _ _ c.if-header-frame.false,
     )
 
 pub plan_by_spec : {M : Type 1} → statement M
+unfolding jumped_by
 plan_by_spec =
     tie.close
-    (tie.spec (search rules) (search rules) returns (search rules) (search rules) returns_2 (search rules) returns_3 (search rules) returns_4
+    (tie.spec (search rules) (search rules) returns (search rules) (search rules) returns_2 (search rules) (λ c. rw (c.refused_jump-then-frame-eq0.ensures, ← c.jump_foreign.ensures, c.if-jump_foreign.false, ← c.other_index.ensures, c.if-other_index.false, eq-eqb c.args.frame 0 (omega arith))) (search rules) returns_4
     (search rules) (search rules) (search rules) (search rules) returns_5)
