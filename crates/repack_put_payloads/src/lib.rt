@@ -22,7 +22,8 @@ pub fn put_pcm(file: &[u8], count: usize, buffer: &mut [u8], at: usize)
     let mut place = at;
     while 0 < left {
         let record = record_at(file, from);
-        if record.target == 2 {
+        let taken = record.target == 2;
+        if taken {
             buffer[place] = record.value;
             place += 1;
         }

@@ -7,13 +7,9 @@ use Rattle.repack_put_opening.proofs.Opening.{no_fill, full_fill, fill_long}
 use Rattle.repack_put_opening.proofs.fill_size.Statement.{statement}
 use Rattle.repack_put_opening.proofs.fill_size.Tie as tie
 
-returns_2 : tie.Need-returns-then-pcm-lt-PCM_SIZE
-returns_2 c =
-    let size = c.operation_size.ensures in
-    (size.0 ∙ sym (fill_long c.args.pcm c.if-pcm-eq0.false c.if-pcm-lt-PCM_SIZE.true), omega arith)
-
 pub fill_size_spec : {M : Type 1} → statement M
 fill_size_spec =
     tie.close
-    (tie.spec (λ c. (sym (ap length (no_fill c.args.pcm c.if-pcm-eq0.true)), omega arith)) (search rules) returns_2
-    (λ c. (sym (ap length (full_fill c.args.pcm c.if-pcm-lt-PCM_SIZE.false)), omega arith)))
+    (tie.spec (λ c. (sym (ap length (no_fill c.args.pcm c.if-pcm-eq0.true)), omega arith)) (search rules)
+    (λ c. let size = c.operation_size.ensures in (size.0 ∙ sym (fill_long c.args.pcm c.if-pcm-eq0.false (omega arith)), omega arith))
+    (λ c. (sym (ap length (full_fill c.args.pcm (omega arith))), omega arith)))

@@ -15,21 +15,18 @@ returns c =
     let a = c.args in
     rw (no_fill a.pcm c.if-pcm-eq0.true) (sym (put_none a.at a.buffer.now (omega arith)))
 
-returns_2 : tie.Need-returns-then-pcm-ge-PCM_SIZE
-returns_2 c =
-    let a = c.args in
-    rw (full_fill a.pcm c.if-pcm-ge-PCM_SIZE.true) (sym (put_none a.at a.buffer.now (omega arith)))
-
 put_fill_requires : tie.Need-put_fill-requires
 put_fill_requires c κs =
     let a = c.args in
-    (omega arith, omega arith, omega (arith, fill_long a.pcm c.if-pcm-eq0.false c.if-pcm-ge-PCM_SIZE.false))
+    (omega arith, omega arith, omega (arith, fill_long a.pcm c.if-pcm-eq0.false (omega arith)))
 
 returns_3 : tie.Need-returns
 returns_3 c =
     let a = c.args in
-    rw (some_fill a.pcm c.if-pcm-eq0.false c.if-pcm-ge-PCM_SIZE.false, item_two (Fill 2 a.pcm (1048576 - a.pcm) 0x80))
+    rw (some_fill a.pcm c.if-pcm-eq0.false (omega arith), item_two (Fill 2 a.pcm (1048576 - a.pcm) 0x80))
     c.put_fill.ensures
 
 pub put_pcm_fill_spec : {M : Type 1} → statement M
-put_pcm_fill_spec = tie.close (tie.spec returns returns_2 (search rules) (search rules) (search rules) put_fill_requires (search rules) returns_3)
+put_pcm_fill_spec =
+    tie.close
+    (tie.spec returns (λ c. let a = c.args in rw (full_fill a.pcm (omega arith)) (sym (put_none a.at a.buffer.now (omega arith)))) (search rules) (search rules) (search rules) put_fill_requires (search rules) returns_3)

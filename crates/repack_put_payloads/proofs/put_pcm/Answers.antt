@@ -2,7 +2,7 @@
 use Prim.Native.Nat.{◌+◌, ◌-◌, ◌*◌, ◌≤◌}
 use mathlib.Core.Path.{◌≡◌, refl, sym, ap, ◌∙◌}
 use mathlib.Core.List.{[], ◌∷◌}
-use Rattle.repack_put_payloads.proofs.put_pcm.Goals.{then-record-eq2, else-record-eq2}
+use Rattle.repack_put_payloads.proofs.put_pcm.Goals.{then-taken, else-taken}
 use native.Mathlib.Omega.{arith}
 use lib.ListN.{length, set}
 use Rattle.base_format.specs.Bytes.{byte}
@@ -19,7 +19,7 @@ loop-left-init c =
 
 pub bounds-buffer-place : goal.bounds-buffer-place
 bounds-buffer-place c =
-    omega (arith, ap length (pcm_byte c.args.file.now _ _ c.loop-left-test.true (sym c.record_at-record.ensures.0 ∙ c.if-record-eq2.true)), c.loop-left.invariant.1.fits)
+    omega (arith, ap length (pcm_byte c.args.file.now _ _ c.loop-left-test.true (sym c.record_at-record.ensures.0 ∙ c.if-taken.true)), c.loop-left.invariant.1.fits)
 
 pub loop-left-preserved : goal.loop-left-preserved
 loop-left-preserved c =
@@ -29,12 +29,12 @@ loop-left-preserved c =
     let is = c.record_at-record.ensures in
     let rest = pcm_bytes file (l.left - 1) (l.from + 5) in (
       omega arith,
-      elim c.if-record-eq2.branch [
-        | then-record-eq2 w ↦
-            let one = pcm_byte file l.left l.from more (sym is.0 ∙ w.if-record-eq2.true) in
+      elim c.if-taken.branch [
+        | then-taken w ↦
+            let one = pcm_byte file l.left l.from more (sym is.0 ∙ w.if-taken.true) in
             wrote l.invariant.1 (byte file (l.from + 4) ∷ []) rest 1 one refl w.place-is
             (w.buffer-is ∙ ap (set l.buffer l.place) is.2 ∙ put_byte (byte file (l.from + 4)) l.place l.buffer (omega (arith, ap length one, l.invariant.1.fits)))
-        | else-record-eq2 w ↦ told l.invariant.1 rest (pcm_skip file l.left l.from more (λ e. w.if-record-eq2.false (is.0 ∙ e))) w.place-is w.buffer-is
+        | else-taken w ↦ told l.invariant.1 rest (pcm_skip file l.left l.from more (λ e. w.if-taken.false (is.0 ∙ e))) w.place-is w.buffer-is
       ],
     )
 

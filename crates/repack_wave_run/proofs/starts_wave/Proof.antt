@@ -14,31 +14,21 @@ use Rattle.base_master.proofs.Pieces.{starts_short, starts_is}
 use Rattle.repack_wave_run.proofs.starts_wave.Statement.{statement}
 use Rattle.repack_wave_run.proofs.starts_wave.Tie as tie
 
-returns : tie.Need-returns-then-left-lt-WAVE_SIZE
-returns c =
-    let a = c.args in
-    sym (starts_short a.file.now a.left a.at c.if-left-lt-WAVE_SIZE.true)
-
 returns_2 : tie.Need-returns-then-target-ge2
 returns_2 c =
     let a = c.args in
-    rw (starts_is a.file.now a.left a.at c.if-left-lt-WAVE_SIZE.false, le-ltb _ _ c.if-target-ge2.true)
-
-returns_3 : tie.Need-returns-then-address-ge2048
-returns_3 c =
-    let a = c.args in
-    rw (starts_is a.file.now a.left a.at c.if-left-lt-WAVE_SIZE.false, ← c.read_address-address.ensures, lt-ltb _ _ c.if-target-ge2.false, le-ltb _ _ c.if-address-ge2048.true)
+    rw (starts_is a.file.now a.left a.at (omega arith), le-ltb _ _ c.if-target-ge2.true)
 
 returns_4 : tie.Need-returns-then-address-ne0
 returns_4 c =
     let a = c.args in
-    rw (starts_is a.file.now a.left a.at c.if-left-lt-WAVE_SIZE.false, ← c.read_address-address.ensures, lt-ltb _ _ c.if-target-ge2.false, lt-ltb _ _ c.if-address-ge2048.false, ne_eqb _ _ c.if-address-ne0.true)
+    rw (starts_is a.file.now a.left a.at (omega arith), ← c.read_address-address.ensures, lt-ltb _ _ c.if-target-ge2.false, lt-ltb c.read_address-address.result 2048 (omega arith), ne_eqb _ _ c.if-address-ne0.true)
 
 runs_on_requires : tie.Need-runs_on-requires
 runs_on_requires c κs =
     let a = c.args in
     let size : a.at + 1280 - a.at ≡ 1280 = omega arith in
-    (rw size (length-take-le 1280 (drop a.at a.file.now) (rw length-drop (omega arith))), c.if-target-ge2.false, c.if-address-ge2048.false)
+    (rw size (length-take-le 1280 (drop a.at a.file.now) (rw length-drop (omega arith))), c.if-target-ge2.false, omega arith)
 
 returns_5 : tie.Need-returns
 returns_5 c =
@@ -46,10 +36,10 @@ returns_5 c =
     let size : a.at + 1280 - a.at ≡ 1280 = omega arith in
     let here : records_at (part a.file.now a.at 1280) 256 0 ≡ records_at a.file.now 256 a.at = records_part a.file.now a.at 1280 256 0 (omega arith) ∙ rw add-zero in
     rw (
-      starts_is a.file.now a.left a.at c.if-left-lt-WAVE_SIZE.false,
+      starts_is a.file.now a.left a.at (omega arith),
       ← c.read_address-address.ensures,
       lt-ltb _ _ c.if-target-ge2.false,
-      lt-ltb _ _ c.if-address-ge2048.false,
+      lt-ltb c.read_address-address.result 2048 (omega arith),
       eq-eqb _ _ c.if-address-ne0.false,
       ← here,
     ) (rw size at c.runs_on.ensures)
@@ -57,4 +47,8 @@ returns_5 c =
 pub starts_wave_spec : {M : Type 1} → statement M
 starts_wave_spec =
     tie.close
-    (tie.spec returns (search rules) returns_2 (search rules) (search rules) returns_3 returns_4 (search rules) (search rules) (search rules) (search rules) runs_on_requires returns_5)
+    (tie.spec (λ c. sym (starts_short c.args.file.now c.args.left c.args.at (omega arith))) (search rules) returns_2 (search rules) (search rules)
+    (λ c.
+    let a = c.args in
+    rw (starts_is a.file.now a.left a.at (omega arith), ← c.read_address-address.ensures, lt-ltb _ _ c.if-target-ge2.false, le-ltb c.read_address-address.result 2048 (omega arith)))
+    returns_4 (search rules) (search rules) (search rules) (search rules) runs_on_requires returns_5)
