@@ -16,8 +16,8 @@ const CARGO_CALL: &str = "cargo build --release --quiet --manifest-path rust/Car
                           --target-dir rust/target --package sgub-cli\n";
 
 /// The first line of a build of the library.
-const BUILDING: &str = "sgub: building the proved library: 3 crates are checked first, from nothing in some \
-                        ten minutes on four processors ..\n";
+const BUILDING: &str =
+    "sgub: building the proved library: 3 crates are checked first, which takes minutes ..\n";
 
 /// A source of the library.
 const SOURCE: &str = "crates/sgub/src/lib.rt";
