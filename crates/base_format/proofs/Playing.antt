@@ -3,7 +3,7 @@
 use Prim.Native.Nat.{ℕ}
 use mathlib.Core.Path.{◌≡◌, refl}
 use mathlib.Core.List.{List, [], ◌∷◌, ◌++◌, map}
-use mathlib.Core.Option.{none, some}
+use Rattle.std.specs.Prelude.{Some, None}
 use Rattle.base_format.specs.Examples.{empty}
 use Rattle.base_format.specs.Listener.{answers, reached, vsync_records, vsyncs_from, new_listener, heard_all, heard}
 use Rattle.base_format.specs.Compare.{core_writes, played}
@@ -33,6 +33,6 @@ unfolding new_listener heard_all heard core_writes played calls four reading wri
 heard_four = refl
 
 -- the wave source of core 1, channel 3 after the COPY's first write, and not before. Edit wave_late
-waves_four : map (λ (rooms : List ℕ). wave_source (reached (started (written four)) (calls (written four) rooms)) 1 3) ((4 ∷ []) ∷ (4 ∷ 1 ∷ []) ∷ []) ≡ none ∷ some 0 ∷ []
+waves_four : map (λ (rooms : List ℕ). wave_source (reached (started (written four)) (calls (written four) rooms)) 1 3) ((4 ∷ []) ∷ (4 ∷ 1 ∷ []) ∷ []) ≡ None ∷ Some 0 ∷ []
 unfolding wave_source reached calls four reading writing listing playing
 waves_four = refl

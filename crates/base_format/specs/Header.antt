@@ -2,7 +2,7 @@
 use Rattle.std.specs.Prelude.{ℕ, ◌+◌, ◌*◌, Bool, cond, not, ◌&&◌, ◌||◌, List, length, eqb, ltb}
 use Rattle.base_format.specs.declared.header.Header.{Header}
 use Rattle.base_format.specs.Bytes.{byte, be}
-use Rattle.base_format.specs.Checked.{Checked, ok, refuse, ◌>>=◌, ◌>>◌}
+use Rattle.base_format.specs.Checked.{Checked, ok, refuse, ◌>>◌}
 use Rattle.base_format.specs.Size.{record_size, master_header_size}
 
 -- the letters SGUB as a number of 4 bytes

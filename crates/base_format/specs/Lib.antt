@@ -1,5 +1,6 @@
 pub mod Checked
 pub mod Lent
+pub mod Number
 pub mod Rule
 pub mod Size
 pub mod Bytes
@@ -15,6 +16,7 @@ pub mod Written
 pub mod Limits
 pub mod Repack
 pub mod Compare
+pub mod Part
 pub mod State
 pub mod Next
 pub mod Player

@@ -6,11 +6,12 @@ use Rattle.base_format.specs.declared.card.CardTable.{CardTable}
 use Rattle.base_format.specs.declared.pool.Pool.{Pool}
 use Rattle.base_targets.specs.declared.Target.{Target}
 use Rattle.base_format.specs.declared.header.Header.{Header}
+pub use Rattle.base_format.specs.declared.operation.Item.{Item}
 use Rattle.base_format.specs.declared.operation.Operation.{Operation}
 use Rattle.base_format.specs.declared.operation.Operation.TheVariants.{Write, Fill, Copy}
 use Rattle.base_format.specs.Bytes.{byte, be}
 use Rattle.base_format.specs.Card.{cards_of}
-use Rattle.base_format.specs.Checked.{Checked, ok, refuse, ◌>>=◌, ◌>>◌}
+use Rattle.base_format.specs.Checked.{Checked, ok, refuse, ◌>>◌}
 use Rattle.base_format.specs.Pool.{pool_at}
 use Rattle.base_format.specs.Target.{target_of, missing, write_limit, outside, kind_for}
 
@@ -25,11 +26,6 @@ pub record Setting : Type 0 where
 abbrev pub setting_of : List ℕ → Header → CardTable → Setting
 setting_of file header table =
     record { version = header.version; cards = cards_of table; pools = header.pool_count; pool_of = pool_at file header.directory_offset }
-
--- an operation, and the place behind it
-pub record Item : Type 0 where
-  pub operation : Operation
-  pub next : ℕ
 
 -- "addresses have 3 bytes in version 2, else 4"; a record's has 3 as well
 unfoldable pub address_width : (version : ℕ) → ℕ

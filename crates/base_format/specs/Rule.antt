@@ -1,51 +1,14 @@
--- The numbers of the refusals.
-use Rattle.std.specs.Prelude.{ℕ}
+-- What a refusal says, and an answer of the code.
+use Rattle.std.specs.Prelude.{Result, Ok, Err}
 use Rattle.base_format.specs.Checked.{Checked, ok, refused}
 use Rattle.base_format.specs.declared.rule.Refusal.{Refusal}
-use Rattle.base_format.specs.declared.rule.Verdict.{Verdict}
-use Rattle.base_format.specs.declared.rule.Verdict.TheVariants.{Allowed, Refused}
-use Rattle.base_format.specs.declared.rule.Rule.{Rule}
-use Rattle.base_format.specs.declared.rule.Rule.TheVariants.{HeaderShort, Letters, Version, Voices, Flags, Period, CardEntry, Counts, Directory, PoolEntry, PoolPayload, Sections, Opcode, CutOff}
-use Rattle.base_format.specs.declared.rule.Rule.TheVariants.{NoTarget, WriteAddress, BulkRange, NoPool, CopyRange, Ending}
-use Rattle.base_format.specs.declared.rule.Rule.TheVariants.{OtherVersion, PcmOrder, ResultSize, LentSize, OtherFile, OtherIndex, NoFrame, NoteRange, FrameOperations, PoolCount}
-
-abbrev pub number_of : Rule → ℕ
-number_of HeaderShort = 1
-number_of Letters = 2
-number_of Version = 3
-number_of Voices = 4
-number_of Flags = 5
-number_of Period = 6
-number_of CardEntry = 7
-number_of Counts = 8
-number_of Directory = 9
-number_of PoolEntry = 10
-number_of PoolPayload = 11
-number_of Sections = 12
-number_of Opcode = 13
-number_of CutOff = 14
-number_of NoTarget = 15
-number_of WriteAddress = 16
-number_of BulkRange = 17
-number_of NoPool = 18
-number_of CopyRange = 19
-number_of Ending = 20
-number_of OtherVersion = 21
-number_of PcmOrder = 22
-number_of ResultSize = 23
-number_of LentSize = 24
-number_of OtherFile = 25
-number_of OtherIndex = 26
-number_of NoFrame = 27
-number_of NoteRange = 28
-number_of FrameOperations = 29
-number_of PoolCount = 30
+pub use Rattle.base_format.specs.Number.{number_of}
 
 -- "a refusal returns number and place"
 abbrev pub refusal : {A : Type 0} → Refusal → Checked A
 refusal r = refused (number_of r.rule) r.place
 
--- what a verdict says
-abbrev pub verdict_of : Verdict → Checked (Unit {0})
-verdict_of Allowed = ok tt
-verdict_of (Refused r) = refusal r
+-- what an answer of the code says
+abbrev pub answer_of : {A : Type 0} → Result A Refusal → Checked A
+answer_of (Ok value) = ok value
+answer_of (Err r) = refusal r

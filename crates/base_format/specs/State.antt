@@ -1,16 +1,14 @@
 -- A player's state, and the state that a start gives.
-use Rattle.std.specs.Prelude.{ℕ, ◌+◌, ◌*◌, ◌-◌, Bool, true, false, cond, ◌&&◌, List, [], ◌++◌, length, get_or, replicate, eqb, ltb}
-use Rattle.std.proofs.Math.Option.{Option, none, some}
+use Rattle.std.specs.Prelude.{ℕ, ◌+◌, ◌*◌, ◌-◌, Bool, true, false, cond, ◌&&◌, List, [], ◌++◌, length, get_or, replicate, ltb, Option, Some, None}
 use Rattle.base_format.specs.declared.card.CardRequirement.{CardRequirement}
 use Rattle.base_format.specs.declared.card.CardTable.{CardTable}
-use Rattle.base_format.specs.declared.player.Part.{Part}
 use Rattle.base_format.specs.declared.player.Part.TheVariants.{Between, Opening, Frame, Closing}
+pub use Rattle.base_format.specs.Part.{part_number, part_of}
 use Rattle.base_format.specs.declared.header.Header.{Header}
 use Rattle.base_format.specs.declared.player.Position.{Position}
 use Rattle.base_format.specs.declared.player.Progress.{Progress}
 use Rattle.base_format.specs.declared.player.StreamPlayer.{StreamPlayer}
 use Rattle.base_format.specs.declared.player.WaveSource.{WaveSource}
-use Rattle.base_format.specs.Bytes.{part}
 use Rattle.base_format.specs.Checked.{Checked, ok, refused}
 use Rattle.base_format.specs.Header.{header_of}
 use Rattle.base_format.specs.Stream.{Stream, read}
@@ -23,17 +21,6 @@ no_card = record { slot = 0; id_length = 0; id_offset = 0; bulk_start = 0; bulk_
 -- "eight cards by value with a count", and those beyond it are all 0
 unfoldable pub table_of : List CardRequirement → CardTable
 table_of cards = record { cards = cards ++ replicate (8 - length cards) no_card; count = length cards }
-
--- what is playing, as the number that a state holds
-abbrev pub part_number : Part → ℕ
-part_number Between = 0
-part_number Opening = 1
-part_number Frame = 2
-part_number Closing = 3
-
--- and back: every number stands for a part
-abbrev pub part_of : ℕ → Part
-part_of n = cond (eqb n 0) Between (cond (eqb n 1) Opening (cond (eqb n 2) Frame Closing))
 
 -- POSITIONS
 
@@ -179,9 +166,9 @@ moved state progress = record { header = state.header; cards = state.cards; uses
 
 -- what stands for a channel in a state: the pool that was last copied to it, or none
 abbrev pub pool_in : WaveSource → Option ℕ
-pool_in source = cond source.copied (some source.pool) none
+pool_in source = cond source.copied (Some source.pool) None
 
 -- `wave_source`, by the state alone. "Outside 2 × 8, none"; which pool it is, WaveSources says
 unfoldable pub wave_source : StreamPlayer → (core channel : ℕ) → Option ℕ
 wave_source state core channel =
-    cond (ltb core 2 && ltb channel 8) (pool_in (get_or state.progress.wave_sources (core * 8 + channel) no_wave)) none
+    cond (ltb core 2 && ltb channel 8) (pool_in (get_or state.progress.wave_sources (core * 8 + channel) no_wave)) None

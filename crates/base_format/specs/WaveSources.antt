@@ -1,7 +1,6 @@
 -- `wave_source`: "the pool last copied by a kind 1 COPY" to a channel of a core, "set with its first write". The kind is that of the
 -- stream's pool. Where no jump is made, a moment of playing is a number of vsyncs that are over and a number of writes of the next.
-use Rattle.std.specs.Prelude.{ℕ, zero, suc, ◌+◌, ◌-◌, ◌/◌, cond, ◌&&◌, List, [], ◌∷◌, ◌++◌, eqb, length, get_or}
-use Rattle.std.proofs.Math.Option.{Option, none, some}
+use Rattle.std.specs.Prelude.{ℕ, zero, suc, ◌+◌, ◌-◌, ◌/◌, cond, ◌&&◌, List, [], ◌∷◌, ◌++◌, eqb, length, get_or, Option, Some, None}
 use Rattle.base_format.specs.declared.operation.Operation.{Operation}
 use Rattle.base_format.specs.declared.operation.Operation.TheVariants.{Write, Fill, Copy}
 use Rattle.base_format.specs.Checked.{ok, refused}
@@ -15,7 +14,7 @@ unfoldable pub copied_by : List Payload → (core channel : ℕ) → Operation �
 copied_by pools core channel (Write target address value) last = last
 copied_by pools core channel (Fill target address size value) last = last
 copied_by pools core channel (Copy target address id source size) last =
-    cond (eqb (get_or pools id no_pool).kind 1 && eqb target core && eqb (address / 256) channel) (some id) last
+    cond (eqb (get_or pools id no_pool).kind 1 && eqb target core && eqb (address / 256) channel) (Some id) last
 
 -- and behind operations, one after the other
 unfoldable pub last_copied : List Payload → (core channel : ℕ) → List Operation → Option ℕ → Option ℕ
@@ -35,7 +34,7 @@ operations_before s (suc k) = operations_before s k ++ vsync_operations s k
 -- the pool last copied to a channel of a core when so many vsyncs are over, and so many writes of the next are made
 unfoldable pub wave_source_at : Stream → (vsyncs writes core channel : ℕ) → Option ℕ
 wave_source_at s vsyncs writes core channel =
-    last_copied s.pools core channel (operations_before s vsyncs ++ begun s.pools writes (vsync_operations s vsyncs)) none
+    last_copied s.pools core channel (operations_before s vsyncs ++ begun s.pools writes (vsync_operations s vsyncs)) None
 
 -- WITH JUMPS
 
@@ -51,4 +50,4 @@ begun_by s which writes (of_jump frame (ok next) ∷ more) = begun s.pools write
 
 -- the pool last copied to a channel of a core by the steps of a started player
 unfoldable pub wave_source_behind : Stream → List Answer → (core channel : ℕ) → Option ℕ
-wave_source_behind s answers core channel = last_copied s.pools core channel (begun_by s first 0 answers) none
+wave_source_behind s answers core channel = last_copied s.pools core channel (begun_by s first 0 answers) None

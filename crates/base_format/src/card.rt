@@ -2,7 +2,7 @@
 
 // A card of version 4: the slot that it is for, its name, and the range that FILL and COPY may write.
 #[repr(C)]
-#[derive(Clone, Copy)]
+#[derive(Clone, Copy, PartialEq, Eq)]
 pub struct CardRequirement {
     pub slot: u8,
     pub id_length: u8,

@@ -2,7 +2,7 @@
 
 // What the header's fields say. Version 1 has no pools, no cards and period 0; its directory and opening start at 20.
 #[repr(C)]
-#[derive(Clone, Copy)]
+#[derive(Clone, Copy, PartialEq, Eq)]
 pub struct Header {
     pub version: u8,
     pub repeat: bool,

@@ -23,6 +23,13 @@ pub enum Operation {
     },
 }
 
+// An operation, and the place behind it.
+#[derive(Clone, Copy)]
+pub struct Item {
+    pub operation: Operation,
+    pub next: usize,
+}
+
 // One write that playing makes.
 #[repr(C)]
 #[derive(Clone, Copy)]

@@ -1,4 +1,7 @@
 // A player's state: what its start recorded, and its progress.
+ghost use Rattle.std.specs.Prelude.{◌≡◌};
+ghost use Rattle.base_format.specs.Part.{part_of};
+
 use crate::{CardTable, Header};
 
 // What a player is playing: nothing yet of the next vsync, the opening, a frame, or the closing writes. A state holds its
@@ -19,6 +22,19 @@ impl Part {
     pub const FRAME: u8 = 2;
 
     pub const CLOSING: u8 = 3;
+}
+
+impl From<u8> for Part {
+    ghost from_gives = { λ number part. part ≡ part_of number };
+
+    fn from(number: u8) -> Part {
+        match number {
+            Part::BETWEEN => Part::Between,
+            Part::OPENING => Part::Opening,
+            Part::FRAME => Part::Frame,
+            _ => Part::Closing,
+        }
+    }
 }
 
 // The pool that was last copied to a place of 256 bytes of a core, if any was.

@@ -1,5 +1,4 @@
-// The position of a lent state. A proof can store numbers behind a `&mut`, but no field that is a struct, so that the numbers are stored
-// one by one, here and nowhere else.
+// The position of a lent state: six numbers of its progress, stored here and nowhere else.
 ghost use Rattle.std.specs.Prelude.{◌≡◌};
 ghost use Rattle.base_format.specs.State.{moved, moved_to};
 

@@ -1,1 +1,1 @@
-pub mod InTurn
+pub mod Refused

@@ -6,7 +6,7 @@ mod progress;
 ghost use Rattle.std.specs.Prelude.{[], ◌≡◌};
 ghost use Rattle.base_format.specs.State.{no_card, table_of, part_of, refused_player, moved};
 
-use base_format::{CardRequirement, CardTable, Header, Part, Progress, StreamPlayer};
+use base_format::{CardRequirement, CardTable, Header, Progress, StreamPlayer};
 pub use progress::{
     before_frame, closing_at, frame_begun, frame_ended, opening_begun, placed, unplayed,
 };
@@ -77,20 +77,4 @@ pub fn moved(state: StreamPlayer, progress: Progress) -> StreamPlayer
         uses_si22: state.uses_si22,
         progress: progress,
     }
-}
-
-// What is playing, by its number.
-pub fn part_of(number: u8) -> Part
-    ensures { result ≡ part_of number }
-{
-    if number == Part::BETWEEN {
-        return Part::Between;
-    }
-    if number == Part::OPENING {
-        return Part::Opening;
-    }
-    if number == Part::FRAME {
-        return Part::Frame;
-    }
-    Part::Closing
 }
