@@ -1,4 +1,5 @@
 pub mod Checks
+pub mod Answered
 pub mod InTurn
 pub mod As25
 pub mod Bytes

@@ -3,45 +3,25 @@
 
 ghost use Rattle.std.specs.Prelude.{◌≡◌};
 ghost use Rattle.base_format.specs.Header.{header_from};
-ghost use Rattle.check_header.specs.Answer.{header_read_of};
+ghost use Rattle.base_format.specs.Rule.{answer_of};
 
-use base_format::{Header, Rule};
+use base_format::{Header, Refusal, Rule};
+use base_refusal::refuse;
 use bytes_read::{byte_at, read_u32};
 use check_header_fields::header_of;
 use check_header_rules::{flags_wrong, header_size, period_wrong};
 
-#[derive(Clone, Copy)]
-pub enum HeaderRead {
-    Found(Header),
-    Refused(Rule),
-}
-
 // The header's fields, or the first of the rules 1 to 6 that it breaks.
-pub fn read_header(file: &[u8]) -> HeaderRead
-    ensures { header_read_of result ≡ header_from file.now }
+pub fn read_header(file: &[u8]) -> Result<Header, Refusal>
+    ensures { answer_of result ≡ header_from file.now }
 {
     let version = byte_at(file, 4);
-    if file.len() < header_size(version) {
-        return HeaderRead::Refused(Rule::HeaderShort);
-    }
-    if read_u32(file, 0) != 0x53475542 {
-        return HeaderRead::Refused(Rule::Letters);
-    }
-    if version == 0 {
-        return HeaderRead::Refused(Rule::Version);
-    }
-    if 4 < version {
-        return HeaderRead::Refused(Rule::Version);
-    }
-    if byte_at(file, 5) != 16 {
-        return HeaderRead::Refused(Rule::Voices);
-    }
-    if flags_wrong(file, version) {
-        return HeaderRead::Refused(Rule::Flags);
-    }
+    refuse(Rule::HeaderShort, 0, file.len() < header_size(version))?;
+    refuse(Rule::Letters, 0, read_u32(file, 0) != 0x53475542)?;
+    refuse(Rule::Version, 0, (version == 0) | (4 < version))?;
+    refuse(Rule::Voices, 0, byte_at(file, 5) != 16)?;
+    refuse(Rule::Flags, 0, flags_wrong(file, version))?;
     let header = header_of(file);
-    if period_wrong(header.frame_period) {
-        return HeaderRead::Refused(Rule::Period);
-    }
-    HeaderRead::Found(header)
+    refuse(Rule::Period, 0, period_wrong(header.frame_period))?;
+    Ok(header)
 }
