@@ -1,8 +1,8 @@
 -- What `?` passes on: the refusal that it met is the answer, whatever stands behind it.
-use Rattle.std.specs.Prelude.{ℕ, Bool, ◌≡◌, Result, Ok, Err, refl}
+use Rattle.std.specs.Prelude.{◌≡◌, Result, Ok, Err}
 use Rattle.std.specs.Result.{IsErrAnd}
 use Rattle.base_format.specs.declared.rule.Refusal.{Refusal}
-use Rattle.base_format.specs.Checked.{Checked, ok, refused, refuse, ◌>>=◌, ◌>>◌, mapped}
+use Rattle.base_format.specs.Checked.{Checked, ◌>>=◌, ◌>>◌, mapped}
 use Rattle.base_format.specs.Rule.{refusal, answer_of}
 
 -- the exit of a `?` gives the refusal

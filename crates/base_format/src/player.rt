@@ -73,13 +73,12 @@ pub struct Position {
     pub frame_index: u32,
 }
 
-// What a vsync plays next: the number of its part, and for a frame the place of its count and how many frames of the pass are begun
-// before it.
+// What a vsync plays next; of a frame the place of its count, and how many frames of the pass are begun before it.
 #[derive(Clone, Copy)]
-pub struct NextPart {
-    pub part: u8,
-    pub place: usize,
-    pub frame: u32,
+pub enum NextPart {
+    Opening,
+    Frame { place: usize, frame: u32 },
+    Closing,
 }
 
 // A player's state: what its start recorded, which no call changes, and its progress.

@@ -2,49 +2,38 @@
 #![tactic(auto)]
 
 ghost use Rattle.std.specs.Prelude.{◌≡◌, ◌+◌, ◌-◌, ◌^◌, ◌<◌};
-ghost use Rattle.base_format.specs.Next.{next_part, frame_next};
+ghost use Rattle.base_format.specs.Next.{next_part, frames_before};
 ghost use Rattle.base_format.specs.Writes.{closing_count};
 ghost use Rattle.base_format.specs.Stream.{opening_limit};
 
-use base_format::{Header, NextPart, Part, Progress};
-
-// The frame whose count stands at a place.
-fn frame_next(place: usize, frame: u32) -> NextPart
-    ensures { result ≡ frame_next place frame }
-{
-    NextPart {
-        part: Part::FRAME,
-        place: place,
-        frame: frame,
-    }
-}
+use base_format::{Header, NextPart, Progress};
 
 // Between vsyncs: the opening, the next frame of the pass, frame 1 again, or the closing writes. One more frame than are begun before
 // it has a number.
+#[tactic(auto, unfolding(base_format::specs::Next::next_part))]
 pub fn next_part(header: Header, progress: Progress) -> NextPart
-    ensures { (result ≡ next_part header progress) × (result.frame + 1 < 2 ^ 32) }
+    ensures { (result ≡ next_part header progress) × (frames_before result + 1 < 2 ^ 32) }
 {
     if !progress.initialized {
-        return NextPart {
-            part: Part::OPENING,
-            place: 0,
+        return NextPart::Opening;
+    }
+    if progress.frame_index < header.frame_count {
+        return NextPart::Frame {
+            place: progress.cursor,
+            frame: progress.frame_index,
+        };
+    }
+    if header.repeat {
+        return NextPart::Frame {
+            place: header.frame_start,
             frame: 0,
         };
     }
-    if progress.frame_index < header.frame_count {
-        return frame_next(progress.cursor, progress.frame_index);
-    }
-    if header.repeat {
-        return frame_next(header.frame_start, 0);
-    }
-    NextPart {
-        part: Part::CLOSING,
-        place: 0,
-        frame: 0,
-    }
+    NextPart::Closing
 }
 
 // The limit of rule 14 for the opening.
+#[tactic(auto, unfolding(base_format::specs::Stream::opening_limit))]
 pub fn opening_limit(file: &[u8], header: Header) -> usize
     ensures { result ≡ opening_limit header file.now }
 {
@@ -68,8 +57,5 @@ pub fn closing_count(uses_si22: bool) -> u32
 pub fn operations_left(done: u32, count: u32) -> u32
     ensures { (result ≡ count - done) × (done + result < 2 ^ 32) }
 {
-    if count < done {
-        return 0;
-    }
-    count - done
+    count.saturating_sub(done)
 }

@@ -12,6 +12,7 @@ use check_header_fields::header_of;
 use check_header_rules::{flags_wrong, header_size, period_wrong};
 
 // The header's fields, or the first of the rules 1 to 6 that it breaks.
+#[tactic(auto, unfolding(base_format::specs::Header::header_from), using(base_format::proofs::Answered::passed_on, base_format::proofs::Answered::refused_first))]
 pub fn read_header(file: &[u8]) -> Result<Header, Refusal>
     ensures { answer_of result ≡ header_from file.now }
 {
