@@ -10,67 +10,41 @@ use base_format::{Header, Progress};
 fn recorded_wrong(version: u8, card_count: u8, cards: usize) -> bool
     ensures { result ≡ (eqb version 0 || ltb 4 version || ltb 8 card_count || ltb 8 cards) }
 {
-    if version == 0 {
-        return true;
-    }
-    if 4 < version {
-        return true;
-    }
-    if 8 < card_count {
-        return true;
-    }
-    8 < cards
+    version == 0 || 4 < version || 8 < card_count || 8 < cards
 }
 
 // Whether a place passes the file's end.
 fn place_past(length: usize, cursor: usize, opening: u32, frames: usize, directory: u32) -> bool
     ensures { result ≡ (ltb length cursor || ltb length opening || ltb length frames || ltb length directory) }
 {
-    if length < cursor {
-        return true;
-    }
-    if length < opening as usize {
-        return true;
-    }
-    if length < frames {
-        return true;
-    }
-    length < directory as usize
+    length < cursor || length < opening as usize || length < frames || length < directory as usize
 }
 
 // Whether a counter passes its count.
 fn counter_past(frames: u32, frame: u32, operations: u32, operation: u32) -> bool
     ensures { result ≡ (ltb frames frame || ltb operations operation) }
 {
-    if frames < frame {
-        return true;
-    }
-    operations < operation
+    frames < frame || operations < operation
 }
 
 // Whether a state with so many cards belongs to another file than one of a length.
+#[tactic(auto, unfolding(crate::specs::Foreign::foreign_to))]
 pub fn foreign(length: usize, header: Header, cards: usize, progress: Progress) -> bool
     ensures { result ≡ foreign_to length header cards progress }
 {
-    if length != header.total_size as usize {
-        return true;
-    }
-    if recorded_wrong(header.version, header.card_count, cards) {
-        return true;
-    }
-    if place_past(
-        length,
-        progress.cursor,
-        header.initial_start,
-        header.frame_start,
-        header.directory_offset,
-    ) {
-        return true;
-    }
-    counter_past(
-        header.frame_count,
-        progress.frame_index,
-        progress.operation_count,
-        progress.operation_index,
-    )
+    length != header.total_size as usize
+        || recorded_wrong(header.version, header.card_count, cards)
+        || place_past(
+            length,
+            progress.cursor,
+            header.initial_start,
+            header.frame_start,
+            header.directory_offset,
+        )
+        || counter_past(
+            header.frame_count,
+            progress.frame_index,
+            progress.operation_count,
+            progress.operation_index,
+        )
 }
