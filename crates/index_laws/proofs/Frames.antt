@@ -8,12 +8,13 @@ use native.Mathlib.Omega.{arith}
 use borrow.Author.Tests.{le-ltb, lt-ltb, ltb-true}
 use lib.Dec.{eqb, ltb}
 use lib.ListN.{length}
+use Rattle.base_format.specs.declared.operation.Item.{Item}
 use Rattle.base_format.specs.declared.operation.Operation.{Operation}
 use Rattle.base_format.specs.Bytes.{AllBytes, byte, be}
 use Rattle.base_format.specs.Checked.{ok}
 use Rattle.base_format.specs.Header.{header_of}
 use Rattle.base_format.specs.Index.{frame_place}
-use Rattle.base_format.specs.Operation.{Setting, Item, address_width, size_of, item_at}
+use Rattle.base_format.specs.Operation.{Setting, address_width, size_of, item_at}
 use Rattle.base_format.specs.Stream.{Stream, operations_from}
 use Rattle.base_format.proofs.Accepted.{Accepted}
 use Rattle.base_format.proofs.Bytes.{be_below}

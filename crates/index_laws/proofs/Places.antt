@@ -8,12 +8,13 @@ use native.Mathlib.Omega.{arith}
 use lib.Dec.{eqb}
 use lib.ListN.{length, take, drop, length-append, length-take, length-drop}
 use lib.Seq.{take_all, take-length, take-add}
+use Rattle.base_format.specs.declared.operation.Item.{Item}
 use Rattle.base_format.specs.declared.operation.Operation.{Operation}
 use Rattle.base_format.specs.Bytes.{be, bytes_of_all, u16, part}
 use Rattle.base_format.specs.Checked.{ok}
 use Rattle.base_format.specs.Header.{header_of}
 use Rattle.base_format.specs.Index.{frame_place}
-use Rattle.base_format.specs.Operation.{Setting, Item, address_width, operation_at, record_at, item_at}
+use Rattle.base_format.specs.Operation.{Setting, address_width, operation_at, record_at, item_at}
 use Rattle.base_format.specs.Pool.{Payload, pool_at, pools_from}
 use Rattle.base_format.specs.Stream.{Stream, operations_from, frames_from}
 use Rattle.base_format.specs.Written.{operation_fields, without_first, item_bytes, operations_bytes, frames_bytes, payloads_bytes, frames_place, end_place}
