@@ -3,7 +3,7 @@
 #![tactic(auto)]
 
 ghost use Rattle.std.specs.Prelude.{◌≡◌, ◌+◌, ◌^◌, ◌<◌};
-ghost use Rattle.play_fast_empty.specs.Empty.{no_empty, empty_next, empty_of};
+ghost use Rattle.play_fast_empty.specs.Empty.{empty_frame, empty_of};
 
 use base_format::{COUNT_SIZE, Header, NextPart, Part, Position, Progress};
 use base_next_part::next_part;
@@ -11,59 +11,46 @@ use base_position::between_at;
 use bytes_read::{passes, read_u16};
 use play_belongs::foreign;
 
-// Whether a vsync is under way, so that the call goes on with it; whether the call is taken, and where the player then is.
+// A vsync is under way, so that the call goes on with it; the call begins one, and is not taken here; or it is taken, and the player
+// is then at a position.
 #[derive(Clone, Copy)]
-pub struct EmptyStep {
-    pub under_way: bool,
-    pub taken: bool,
-    pub to: Position,
+pub enum EmptyStep {
+    UnderWay,
+    NotTaken,
+    Taken(Position),
 }
 
-// The call is not taken.
-fn no_empty(under_way: bool) -> EmptyStep
-    ensures { result ≡ no_empty under_way }
+// The call of a frame whose count stands at a place: the player is then behind the count.
+#[tactic(auto, unfolding(crate::specs::Empty::empty_frame))]
+fn empty_frame(file: &[u8], place: usize, frame: u32) -> EmptyStep
+    requires { frame + 1 < 2 ^ 32 }
+    ensures { result ≡ empty_frame file.now place frame }
 {
-    EmptyStep {
-        under_way: under_way,
-        taken: false,
-        to: between_at(0, 0),
-    }
-}
-
-// The frame that is next, if it is empty: the player is then behind its count.
-fn empty_next(file: &[u8], next: NextPart) -> EmptyStep
-    requires { next.frame + 1 < 2 ^ 32 }
-    ensures { result ≡ empty_next file.now next }
-{
-    if next.part != Part::FRAME {
-        return no_empty(false);
-    }
-    let place = next.place;
     if passes(file.len(), place, COUNT_SIZE) {
-        return no_empty(false);
+        return EmptyStep::NotTaken;
     }
     if read_u16(file, place) != 0 {
-        return no_empty(false);
+        return EmptyStep::NotTaken;
     }
-    EmptyStep {
-        under_way: false,
-        taken: true,
-        to: between_at(place + COUNT_SIZE, next.frame + 1),
-    }
+    EmptyStep::Taken(between_at(place + COUNT_SIZE, frame + 1))
 }
 
 // The call of a state with so many cards.
+#[tactic(auto, unfolding(crate::specs::Empty::empty_of))]
 pub fn empty_step(file: &[u8], header: Header, cards: usize, progress: Progress) -> EmptyStep
     ensures { result ≡ empty_of file.now header cards progress }
 {
     if progress.part != Part::BETWEEN {
-        return no_empty(true);
+        return EmptyStep::UnderWay;
     }
     if progress.finished {
-        return no_empty(false);
+        return EmptyStep::NotTaken;
     }
     if foreign(file.len(), header, cards, progress) {
-        return no_empty(false);
+        return EmptyStep::NotTaken;
     }
-    empty_next(file, next_part(header, progress))
+    match next_part(header, progress) {
+        NextPart::Frame { place, frame } => empty_frame(file, place, frame),
+        NextPart::Opening | NextPart::Closing => EmptyStep::NotTaken,
+    }
 }
