@@ -2,10 +2,10 @@
 #![tactic(auto)]
 
 ghost use Rattle.std.specs.Prelude.{◌≡◌};
-ghost use Rattle.pitch_frequency.specs.Frequency.{pitched_of};
+ghost use Rattle.base_format.specs.Rule.{answer_of};
 ghost use Rattle.sgub_pitch.specs.Surface.{frequency_on};
 
-use pitch_frequency::Pitched;
+use base_format::Refusal;
 
 // The pitch; or the refusal, with pitch 0.
 #[repr(C)]
@@ -16,22 +16,19 @@ pub struct SgubFrequency {
     pub pitch: u16,
 }
 
-pub fn frequency_of(answer: Pitched) -> SgubFrequency
-    ensures { result ≡ frequency_on (pitched_of answer) }
+pub fn frequency_of(answer: Result<u16, Refusal>) -> SgubFrequency
+    ensures { result ≡ frequency_on (answer_of answer) }
 {
     match answer {
-        Pitched::Pitch(pitch) => SgubFrequency {
+        Ok(pitch) => SgubFrequency {
             number: 0,
             place: 0,
-            pitch: pitch,
+            pitch,
         },
-        Pitched::Refused(refusal) => {
-            let rule = refusal.rule;
-            SgubFrequency {
-                number: base_refusal::number(rule),
-                place: refusal.place as u64,
-                pitch: 0,
-            }
-        }
+        Err(refusal) => SgubFrequency {
+            number: u32::from(refusal.rule),
+            place: refusal.place as u64,
+            pitch: 0,
+        },
     }
 }
