@@ -2,43 +2,24 @@
 #![tactic(auto)]
 
 ghost use Rattle.std.specs.Prelude.{◌≡◌};
-ghost use Rattle.base_format.specs.Rule.{verdict_of};
+ghost use Rattle.base_format.specs.Rule.{answer_of};
 ghost use Rattle.base_format.specs.Operation.{write_rules, fill_rules};
 
-use base_format::{Refusal, Rule, Target, Verdict};
+use base_format::{Refusal, Rule, Target};
+use base_refusal::refuse;
 
-pub fn check_write(at: usize, target: Target, address: u32) -> Verdict
-    ensures { verdict_of result ≡ write_rules at target address }
+#[tactic(auto, unfolding(base_format::specs::Operation::write_rules), using(base_format::proofs::Answered::passed_on, base_format::proofs::Answered::refused_first))]
+pub fn check_write(at: usize, target: Target, address: u32) -> Result<(), Refusal>
+    ensures { answer_of result ≡ write_rules at target address }
 {
-    if target.missing() {
-        return Verdict::Refused(Refusal {
-            rule: Rule::NoTarget,
-            place: at,
-        });
-    }
-    if target.write_limit() < address {
-        return Verdict::Refused(Refusal {
-            rule: Rule::WriteAddress,
-            place: at,
-        });
-    }
-    Verdict::Allowed
+    refuse(Rule::NoTarget, at, target.missing())?;
+    refuse(Rule::WriteAddress, at, target.write_limit() < address)
 }
 
-pub fn check_fill(at: usize, target: Target, address: u32, length: u32) -> Verdict
-    ensures { verdict_of result ≡ fill_rules at target address length }
+#[tactic(auto, unfolding(base_format::specs::Operation::fill_rules), using(base_format::proofs::Answered::passed_on, base_format::proofs::Answered::refused_first))]
+pub fn check_fill(at: usize, target: Target, address: u32, length: u32) -> Result<(), Refusal>
+    ensures { answer_of result ≡ fill_rules at target address length }
 {
-    if target.missing() {
-        return Verdict::Refused(Refusal {
-            rule: Rule::NoTarget,
-            place: at,
-        });
-    }
-    if target.outside(address, length) {
-        return Verdict::Refused(Refusal {
-            rule: Rule::BulkRange,
-            place: at,
-        });
-    }
-    Verdict::Allowed
+    refuse(Rule::NoTarget, at, target.missing())?;
+    refuse(Rule::BulkRange, at, target.outside(address, length))
 }
