@@ -7,6 +7,7 @@ use native.Mathlib.Omega.{arith}
 use borrow.Author.Tests.{ltb-false, le-leb, eqb-false}
 use lib.Dec.{eqb, leb, ltb}
 use Rattle.base_format.specs.declared.card.CardRequirement.{CardRequirement}
+use Rattle.base_format.specs.declared.operation.Item.{Item}
 use Rattle.base_format.specs.declared.operation.Operation.{Operation}
 use Rattle.base_format.specs.declared.operation.Operation.TheVariants.{Write, Fill, Copy}
 use Rattle.base_format.specs.declared.player.StreamPlayer.{StreamPlayer}
@@ -14,7 +15,7 @@ use Rattle.base_targets.specs.declared.Target.{Target}
 use Rattle.base_targets.specs.declared.Target.TheVariants.{Core, Pcm, Bank, Slot, Si22, Missing}
 use Rattle.base_format.specs.Card.{one_card_wrong}
 use Rattle.base_format.specs.Checked.{ok}
-use Rattle.base_format.specs.Operation.{Setting, Item, write_rules, fill_rules, allowed, item_at}
+use Rattle.base_format.specs.Operation.{Setting, write_rules, fill_rules, allowed, item_at}
 use Rattle.play_laws.specs.Plan.{count_of, address_of}
 use Rattle.base_format.specs.Player.{setting_in, slot_wrong, card_used, pools_used, item_used}
 use Rattle.base_format.specs.Target.{slot_of, slot_target, target_of, missing, write_limit, bulk_start, bulk_length}

@@ -6,6 +6,8 @@ use mathlib.Core.Path.{◌≡◌, refl, sym, ap, ◌∙◌}
 use native.Mathlib.Omega.{arith}
 use lib.Dec.{eqb, leb, ltb}
 use lib.ListN.{length, take, drop, length-append, length-take, length-drop}
+use Rattle.base_format.specs.declared.player.NextPart.{NextPart}
+use Rattle.base_format.specs.declared.player.NextPart.TheVariants as Next
 use Rattle.base_format.specs.declared.player.Part.{Part}
 use Rattle.base_format.specs.declared.player.Part.TheVariants.{Between, Opening, Frame, Closing}
 use Rattle.base_format.specs.declared.player.Progress.{Progress}
@@ -13,8 +15,8 @@ use Rattle.base_format.specs.declared.player.StreamPlayer.{StreamPlayer}
 use Rattle.base_format.specs.declared.operation.WriteRecord.{WriteRecord}
 use Rattle.base_format.specs.Checked.{Checked, ok, refused, refuse, mapped, ◌>>=◌, ◌>>◌}
 use Rattle.play_laws.specs.Plan.{Plan, plan_of, plan_frame, plan_opening, plan_closing, plan, planned}
-use Rattle.base_format.specs.Next.{next_part}
-use Rattle.base_format.specs.State.{part_number, part_of, moved}
+use Rattle.base_format.specs.Next.{next_part, by_next}
+use Rattle.base_format.specs.State.{part_of, moved}
 use Rattle.base_format.specs.Player.{Gathered, gathered, Played, opening_begun, frame_begun, frame_ended, closing_at, operations_left, play_frame, play_opening, play_closing, play, belongs, as25, call, run_after}
 use Rattle.base_format.specs.Stream.{opening_limit}
 use Rattle.base_format.specs.Writes.{silence, closing_writes, closing_count}
@@ -135,10 +137,14 @@ unfolding plan play
 plan_part state file room p Opening = plan_opening_lem state file room p
 plan_part state file room p Frame = plan_frame_lem state file room p
 plan_part state file room p Closing = plan_closing_lem state room p
-plan_part state file room p Between =
-    let next = next_part state.header p in
-    plan_cond (eqb next.part (part_number Opening)) _ _ (plan_opening_lem state file room _)
-    (plan_cond (eqb next.part (part_number Frame)) _ _ (plan_begun_lem state file room (frame_begun file next.place next.frame p)) (plan_closing_lem state room _))
+plan_part state file room p Between = go (next_part state.header p)
+  where
+    go : (next : NextPart)
+        → by_next next (plan_opening state file room (opening_begun state.header p)) (λ (place frame : ℕ). frame_begun file place frame p >>= plan_frame state file room) (plan_closing state room (closing_at 0 false p))
+        ≡ mapped plan_of (by_next next (play_opening state file room (opening_begun state.header p)) (λ (place frame : ℕ). frame_begun file place frame p >>= play_frame state file room) (play_closing state room (closing_at 0 false p)))
+    go Next.Opening = plan_opening_lem state file room _
+    go (Next.Frame place frame) = plan_begun_lem state file room (frame_begun file place frame p)
+    go Next.Closing = plan_closing_lem state room _
 
 plan_25 : (first : Checked (Unit {0})) (a : Checked Plan) (a' : Checked Played) → a ≡ mapped plan_of a' → as25 (first >> a) ≡ mapped plan_of (as25 (first >> a'))
 plan_25 (refused number place) a a' e = refl
@@ -207,10 +213,14 @@ unfolding play
 part_fits state file room p Opening a e = opening_fits state file room p a e
 part_fits state file room p Frame a e = frame_fits state file room p a e
 part_fits state file room p Closing a e = closing_fits state room p a e
-part_fits state file room p Between a e =
-    let next = next_part state.header p in
-    fits_cond (eqb next.part (part_number Opening)) _ _ room a (opening_fits state file room (opening_begun state.header p) a)
-    (fits_cond (eqb next.part (part_number Frame)) _ _ room a (begun_fits state file room (frame_begun file next.place next.frame p) a) (closing_fits state room (closing_at 0 false p) a)) e
+part_fits state file room p Between a e = go (next_part state.header p) e
+  where
+    go : (next : NextPart)
+        → by_next next (play_opening state file room (opening_begun state.header p)) (λ (place frame : ℕ). frame_begun file place frame p >>= play_frame state file room) (play_closing state room (closing_at 0 false p)) ≡ ok a
+        → length a.records ≤ room
+    go Next.Opening e = opening_fits state file room (opening_begun state.header p) a e
+    go (Next.Frame place frame) e = begun_fits state file room (frame_begun file place frame p) a e
+    go Next.Closing e = closing_fits state room (closing_at 0 false p) a e
 
 pub checked_25 : (x : Checked Played) (a : Played) → as25 x ≡ ok a → x ≡ ok a
 checked_25 (ok b) a e = e

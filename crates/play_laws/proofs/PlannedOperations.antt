@@ -9,6 +9,7 @@ use lib.Dec.{eqb, leb, ltb}
 use lib.ListN.{length, get_or, take, drop, replicate, length-take, length-drop, length-append, length-replicate, get_or-replicate}
 use lib.Seq.{get_or-take, get_or-drop}
 use Rattle.base_format.specs.declared.card.CardRequirement.{CardRequirement}
+use Rattle.base_format.specs.declared.operation.Item.{Item}
 use Rattle.base_format.specs.declared.operation.Operation.{Operation}
 use Rattle.base_format.specs.declared.operation.Operation.TheVariants.{Write, Fill, Copy}
 use Rattle.base_format.specs.declared.pool.Pool.{Pool}
@@ -18,7 +19,7 @@ use Rattle.base_format.specs.declared.player.WaveSource.{WaveSource}
 use Rattle.base_format.specs.declared.operation.WriteRecord.{WriteRecord}
 use Rattle.base_format.specs.Bytes.{byte, part}
 use Rattle.base_format.specs.Checked.{Checked, ok, refused, refuse, mapped, ◌>>=◌, ◌>>◌}
-use Rattle.base_format.specs.Operation.{Setting, Item, copy_rules, allowed, item_at}
+use Rattle.base_format.specs.Operation.{Setting, copy_rules, allowed, item_at}
 use Rattle.play_laws.specs.Plan.{count_of, write_at, planned_operations}
 use Rattle.base_format.specs.Player.{setting_in, card_used, pool_used, pools_used, item_used, bytes_at, waves_by, placed, Gathered, gathered}
 use Rattle.base_format.specs.Pool.{pool_at}

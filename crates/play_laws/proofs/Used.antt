@@ -10,6 +10,7 @@ use lib.Dec.{eqb}
 use lib.ListN.{length, get_or, length-take, length-drop, length-replicate}
 use Rattle.base_format.specs.declared.card.CardRequirement.{CardRequirement}
 use Rattle.base_format.specs.declared.header.Header.{Header}
+use Rattle.base_format.specs.declared.operation.Item.{Item}
 use Rattle.base_format.specs.declared.operation.Operation.{Operation}
 use Rattle.base_format.specs.declared.operation.Operation.TheVariants.{Write, Fill, Copy}
 use Rattle.base_format.specs.declared.player.Progress.{Progress}
@@ -18,7 +19,7 @@ use Rattle.base_format.specs.Bytes.{byte, part}
 use Rattle.base_format.specs.Card.{cards_from}
 use Rattle.base_format.specs.Checked.{ok}
 use Rattle.base_format.specs.Header.{header_size, header_of}
-use Rattle.base_format.specs.Operation.{Setting, Item, fill_rules, allowed, operation_at, record_at, item_at}
+use Rattle.base_format.specs.Operation.{Setting, fill_rules, allowed, operation_at, record_at, item_at}
 use Rattle.base_format.specs.State.{player_of}
 use Rattle.base_format.specs.Player.{slot_wrong, card_used, pool_used, pools_used, item_used, bytes_at}
 use Rattle.base_format.specs.Pool.{no_pool, pool_at}
