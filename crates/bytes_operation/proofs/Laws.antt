@@ -7,10 +7,11 @@ use native.Mathlib.Nat.{add-zero}
 use native.Mathlib.Omega.{arith}
 use borrow.Author.Tests.{le-ltb, lt-leb, ne_eqb}
 use lib.Dec.{eqb}
+use Rattle.base_format.specs.declared.operation.Item.{Item}
 use Rattle.base_format.specs.declared.operation.Operation.TheVariants.{Write, Fill, Copy}
 use Rattle.base_format.specs.Bytes.{byte, be, part}
 use Rattle.base_format.specs.Checked.{Checked, ok, ◌>>◌}
-use Rattle.base_format.specs.Operation.{Setting, Item, address_width, size_of, fields_at, allowed, operation_at, record_at, item_at}
+use Rattle.base_format.specs.Operation.{Setting, address_width, size_of, fields_at, allowed, operation_at, record_at, item_at}
 use Rattle.base_format.proofs.Bytes.{byte_part, be_part}
 use Rattle.base_format.proofs.Sizes.{size_is, size_most, width_range}
 use Rattle.bytes_operation.specs.declared.decode.Decoded.{Decoded}
