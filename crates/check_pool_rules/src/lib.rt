@@ -3,11 +3,11 @@
 
 ghost use Rattle.std.specs.Prelude.{◌≡◌, ◌+◌, ◌^◌, ◌<◌};
 ghost use Rattle.base_format.specs.Pool.{bank_limit, kind_wrong, pool_wrong};
-ghost use Rattle.base_format.specs.Rule.{verdict_of};
+ghost use Rattle.base_format.specs.Rule.{answer_of};
 ghost use Rattle.check_pool_rules.specs.Rules.{pool_rules};
 
-use base_format::{PCM_SIZE, Pool, Rule, Verdict};
-use base_refusal::{refuse, then};
+use base_format::{PCM_SIZE, Pool, Refusal, Rule};
+use base_refusal::refuse;
 use bytes_read::{byte_at, read_u16, read_u32};
 
 // How long a payload of kind 3 may be.
@@ -66,13 +66,20 @@ fn pool_wrong(file: &[u8], version: u8, at: usize, id: u32, start: usize, pool: 
 }
 
 // The rules 10 and 11 for the pool whose entry stands at a place.
-pub fn check_pool(file: &[u8], version: u8, at: usize, id: u32, start: usize, pool: Pool) -> Verdict
+#[tactic(auto, using(base_format::proofs::Answered::passed_on, base_format::proofs::Answered::refused_first))]
+pub fn check_pool(
+    file: &[u8],
+    version: u8,
+    at: usize,
+    id: u32,
+    start: usize,
+    pool: Pool,
+) -> Result<(), Refusal>
     requires { (at + 16 < 2 ^ 64) × (start < 2 ^ 63) }
-    ensures { verdict_of result ≡ pool_rules version file.now at id start pool }
+    ensures { answer_of result ≡ pool_rules version file.now at id start pool }
 {
     let wrong = pool_wrong(file, version, at, id, start, pool);
-    let past = file.len() < start + pool.size as usize;
-    let entry = refuse(Rule::PoolEntry, at, wrong);
-    let payload = refuse(Rule::PoolPayload, at, past);
-    then(entry, payload)
+    refuse(Rule::PoolEntry, at, wrong)?;
+    let end = start + pool.size as usize;
+    refuse(Rule::PoolPayload, at, file.len() < end)
 }

@@ -1,9 +1,7 @@
 -- The rules 8 to 12 as the code makes them: no list of pools is built.
 use Rattle.std.specs.Prelude.{ℕ, List, length}
 use Rattle.base_format.specs.declared.header.Header.{Header}
-use Rattle.base_format.specs.declared.rule.Verdict.{Verdict}
 use Rattle.base_format.specs.Checked.{Checked, refuse, ◌>>=◌, ◌>>◌}
-use Rattle.base_format.specs.Rule.{verdict_of}
 use Rattle.base_format.specs.Stream.{counts_wrong, sections_wrong}
 use Rattle.check_pools.specs.Pools.{pools_end}
 use Rattle.check_tables.specs.Directory.{payloads_start, directory_wrong}
@@ -20,7 +18,3 @@ layout_from header file = do
   refuse 8 0 (counts_wrong header (length file))
   refuse 9 0 (directory_wrong header (length file))
   pools_checked header file
-
--- behind the verdict on the cards, which comes first
-abbrev pub layout_behind : Verdict → Header → List ℕ → Checked (Unit {0})
-layout_behind cards header file = verdict_of cards >> layout_from header file
