@@ -16,11 +16,9 @@ pub fn put_entries(file: &[u8], version: u8, entries: usize, start: usize, buffe
     ensures { buffer.new ≡ put (bytes_of_all (entries_walk version file.now entries start)) 0 buffer.old }
 {
     let mut at = start;
-    let mut i = 0;
-    while i < entries {
+    for i in 0..entries {
         put_u32(buffer, i * INDEX_ENTRY_SIZE, at as u32);
         at = frames_end(file, version, INDEX_SPACING, at);
-        i += 1;
     }
 }
 
