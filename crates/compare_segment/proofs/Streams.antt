@@ -11,12 +11,13 @@ use lib.Dec.{eqb}
 use lib.ListN.{length, get_or, take, drop, replicate}
 use lib.Seq.{drop-cons, drop-drop, take-nil, take-take}
 use Rattle.base_format.specs.declared.header.Header.{Header}
+use Rattle.base_format.specs.declared.operation.Item.{Item}
 use Rattle.base_format.specs.declared.operation.Operation.{Operation}
 use Rattle.base_format.specs.declared.operation.Operation.TheVariants.{Write, Fill, Copy}
 use Rattle.base_format.specs.declared.operation.WriteRecord.{WriteRecord}
 use Rattle.base_format.specs.Bytes.{byte, be, part}
 use Rattle.base_format.specs.Checked.{ok}
-use Rattle.base_format.specs.Operation.{Setting, Item, address_width, size_of, fields_at, allowed, record_at, operation_at, item_at}
+use Rattle.base_format.specs.Operation.{Setting, address_width, size_of, fields_at, allowed, record_at, operation_at, item_at}
 use Rattle.base_format.specs.Pool.{no_pool, pool_at}
 use Rattle.base_format.specs.Size.{operation_most}
 use Rattle.base_format.specs.Stream.{Stream, operations_from}

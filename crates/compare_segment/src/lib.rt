@@ -6,7 +6,7 @@ ghost use Rattle.compare_segment.specs.Segments.{source_step, copy_source, segme
 
 use bytes_operation::{Decoded, address_width, decode_operation};
 use bytes_read::item_bytes;
-use check_pools::read_pool;
+use check_pool_entry::read_pool;
 
 // `count` writes to a target, upward from an address, and the place behind the operation. The first value stands at `source`; where
 // the values are copied each next one stands behind it, and else it is the value of all.
@@ -32,34 +32,30 @@ fn copy_source(file: &[u8], directory: u32, item: Decoded) -> usize
 pub fn step_of(copied: bool) -> usize
     ensures { (result ≡ source_step copied) × (result ≤ 1) }
 {
-    if copied { 1 } else { 0 }
+    copied as usize
 }
 
 // The operation at a place. The file was accepted, so that its rules are not tested again. The value of a WRITE or a FILL is its last
 // byte.
+#[tactic(auto, unfolding(crate::specs::Segments::segment_at), using(crate::proofs::Near::size_some))]
 pub fn segment_at(file: &[u8], directory: u32, at: usize) -> Segment
     requires { at ≤ 0x1000000000000000 }
     ensures { (result ≡ segment_at file.now directory at) × (result.source ≤ 0x2000000000000000) }
 {
     let item = decode_operation(item_bytes(file, at), address_width(2));
     let next = at + item.size;
-    if item.opcode < 2 {
-        return Segment {
-            target: item.target,
-            address: item.address,
-            count: item.length,
-            source: next - 1,
-            copied: false,
-            next,
-        };
-    }
-    let source = copy_source(file, directory, item);
+    let copied = 2 <= item.opcode;
+    let source = if copied {
+        copy_source(file, directory, item)
+    } else {
+        next - 1
+    };
     Segment {
         target: item.target,
         address: item.address,
         count: item.length,
         source,
-        copied: true,
+        copied,
         next,
     }
 }
