@@ -1,2 +1,1 @@
 pub mod Match
-pub mod Records

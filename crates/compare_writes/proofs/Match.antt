@@ -1,20 +1,18 @@
 -- One step of each loop that compares: what remains decides.
 use Prim.Native.Nat.{ℕ, zero, suc, ◌+◌, ◌*◌, ◌-◌, ◌<◌}
-use mathlib.Core.Path.{◌≡◌, refl, ◌∙◌}
+use mathlib.Core.Path.{◌≡◌, refl}
 use mathlib.Core.Bool.{Bool, true, false, cond, ◌&&◌}
 use mathlib.Core.List.{List, [], ◌∷◌, ◌++◌}
 use native.Mathlib.Nat.{not-suc-le-zero}
 use native.Mathlib.Omega.{arith}
+use Rattle.std.specs.Prelude.{Option, Some, None}
 use Rattle.base_format.specs.declared.operation.WriteRecord.{WriteRecord}
 use Rattle.base_format.specs.Bytes.{byte, be}
 use Rattle.base_format.specs.Compare.{same_write, same_writes, core_writes}
 use Rattle.base_format.specs.Size.{record_size, count_size}
 use Rattle.base_format.specs.Writes.{write}
 use Rattle.compare_segment.specs.declared.Segment.{Segment}
-use Rattle.compare_writes.specs.declared.run.Run.{Run}
-use Rattle.compare_writes.specs.declared.run.Run.TheVariants as run
-use Rattle.compare_writes.specs.declared.part.PartMatch.{PartMatch}
-use Rattle.compare_writes.specs.declared.part.PartMatch.TheVariants as part
+use Rattle.compare_writes.specs.declared.run.Records.{Records}
 use Rattle.compare_segment.specs.Segments.{source_step, spread, segment_at, segment_writes, operation_writes, operations_stop, record_write, record_writes}
 use Rattle.compare_writes.specs.Match.{keeps, kept, matched, matched_segment, matched_operation, same_part, matched_part, if_behind, same_frames_at}
 
@@ -48,62 +46,46 @@ kept_rest all file target address source step (suc count) rest e =
 -- RECORDS AGAINST A SEGMENT
 
 module _ (all : Bool) (master other : List ℕ) where
-  pub matched_end : (left at target address source step : ℕ) → matched all master other left at target address source step 0 ≡ run.Behind at left
+  pub matched_end : (left at target address source step count : ℕ) → count ≡ 0 → matched all master other left at target address source step count ≡ Some (record { at = at; left = left })
   unfolding matched
-  matched_end zero at target address source step = refl
-  matched_end (suc left) at target address source step = refl
+  matched_end zero at target address source step count e = rw e
+  matched_end (suc left) at target address source step count e = rw e
 
-  pub matched_short : (at target address source step count : ℕ) → 0 < count → matched all master other 0 at target address source step count ≡ run.Differs
+  pub matched_short : (at target address source step count : ℕ) → 0 < count → matched all master other 0 at target address source step count ≡ None
   unfolding matched
   matched_short at target address source step zero h = absurd (not-suc-le-zero h)
   matched_short at target address source step (suc count) h = refl
 
-  matched_step : (left at target address source step count : ℕ) → 0 < left → 0 < count
+  pub matched_step : (left at target address source step count : ℕ) → 0 < left → 0 < count
       → matched all master other left at target address source step count
       ≡ cond (keeps all (record_write master at).target)
       (cond (same_write (record_write master at) (write target address (byte other source)))
-      (matched all master other (left - 1) (at + record_size) target (address + 1) (source + step) step (count - 1)) run.Differs)
+      (matched all master other (left - 1) (at + record_size) target (address + 1) (source + step) step (count - 1)) None)
       (matched all master other (left - 1) (at + record_size) target address source step count)
   unfolding matched
   matched_step zero at target address source step count h h' = absurd (not-suc-le-zero h)
   matched_step (suc left) at target address source step zero h h' = absurd (not-suc-le-zero h')
   matched_step (suc left) at target address source step (suc count) h h' = rw (less left, less count)
 
-  -- the write at a record counts and agrees, or differs; or it does not count
-  module _ (left at target address source step count : ℕ) (some : 0 < left) (some' : 0 < count) where
-    pub matched_next : keeps all (record_write master at).target ≡ true → same_write (record_write master at) (write target address (byte other source)) ≡ true
-        → matched all master other left at target address source step count ≡ matched all master other (left - 1) (at + record_size) target (address + 1) (source + step) step (count - 1)
-    matched_next k s = matched_step left at target address source step count some some' ∙ rw (k, s)
-
-    pub matched_differs : keeps all (record_write master at).target ≡ true → same_write (record_write master at) (write target address (byte other source)) ≡ false
-        → matched all master other left at target address source step count ≡ run.Differs
-    matched_differs k s = matched_step left at target address source step count some some' ∙ rw (k, s)
-
-    pub matched_skip : keeps all (record_write master at).target ≡ false
-        → matched all master other left at target address source step count ≡ matched all master other (left - 1) (at + record_size) target address source step count
-    matched_skip k = matched_step left at target address source step count some some' ∙ rw k
-
   -- the records behind are the last ones
-  pub matched_place : (left at target address source step count at' left' : ℕ)
-      → matched all master other left at target address source step count ≡ run.Behind at' left' → at' + left' * record_size ≡ at + left * record_size
+  pub matched_place : (left at target address source step count : ℕ) (r : Records)
+      → matched all master other left at target address source step count ≡ Some r → r.at + r.left * record_size ≡ at + left * record_size
   unfolding matched
-  matched_place zero at target address source step zero at' left' e =
-      let p : at ≡ at' = cc in
-      let q : 0 ≡ left' = cc in
-      rw (← p, ← q)
-  matched_place (suc left) at target address source step zero at' left' e =
-      let p : at ≡ at' = cc in
-      let q : suc left ≡ left' = cc in
-      rw (← p, ← q)
-  matched_place zero at target address source step (suc count) at' left' e = absurd (let z : ◌≡◌ {A = ℕ} 0 1 = cc in omega arith)
-  matched_place (suc left) at target address source step (suc count) at' left' e =
+  matched_place zero at target address source step zero r e =
+      let p : record { at = at; left = 0 } ≡ r = cc in
+      rw (← p)
+  matched_place (suc left) at target address source step zero r e =
+      let p : record { at = at; left = suc left } ≡ r = cc in
+      rw (← p)
+  matched_place zero at target address source step (suc count) r e = absurd (let z : ◌≡◌ {A = ℕ} 0 1 = cc in omega arith)
+  matched_place (suc left) at target address source step (suc count) r e =
       go (keeps all (record_write master at).target) (same_write (record_write master at) (write target address (byte other source)))
-      (matched_place left (at + record_size) target (address + 1) (source + step) step count at' left')
-      (matched_place left (at + record_size) target address source step (suc count) at' left') e
+      (matched_place left (at + record_size) target (address + 1) (source + step) step count r)
+      (matched_place left (at + record_size) target address source step (suc count) r) e
     where
-      go : {a b : Run} (k s : Bool) → (a ≡ run.Behind at' left' → at' + left' * record_size ≡ at + record_size + left * record_size)
-          → (b ≡ run.Behind at' left' → at' + left' * record_size ≡ at + record_size + left * record_size)
-          → cond k (cond s a run.Differs) b ≡ run.Behind at' left' → at' + left' * record_size ≡ at + suc left * record_size
+      go : {a b : Option Records} (k s : Bool) → (a ≡ Some r → r.at + r.left * record_size ≡ at + record_size + left * record_size)
+          → (b ≡ Some r → r.at + r.left * record_size ≡ at + record_size + left * record_size)
+          → cond k (cond s a None) b ≡ Some r → r.at + r.left * record_size ≡ at + suc left * record_size
       go true true one two e = omega (arith, one e)
       go true false one two e = absurd (let z : ◌≡◌ {A = ℕ} 0 1 = cc in omega arith)
       go false s one two e = omega (arith, two e)
@@ -112,13 +94,13 @@ module _ (all : Bool) (master other : List ℕ) where
   abbrev rest_same : (rest : List WriteRecord) → ℕ → ℕ → Bool
   rest_same rest left at = same_writes (kept all (record_writes master left at)) (kept all rest)
 
-  match_kept : (r w : WriteRecord) (rs ws : List WriteRecord) (k : Bool) (a b : Run) (next : ℕ → ℕ → Bool) → keeps all w.target ≡ true → keeps all r.target ≡ k
+  match_kept : (r w : WriteRecord) (rs ws : List WriteRecord) (k : Bool) (a b : Option Records) (next : ℕ → ℕ → Bool) → keeps all w.target ≡ true → keeps all r.target ≡ k
       → same_writes (kept all rs) (kept all ws) ≡ if_behind a next false → same_writes (kept all rs) (kept all (w ∷ ws)) ≡ if_behind b next false
-      → same_writes (kept all (r ∷ rs)) (kept all (w ∷ ws)) ≡ if_behind (cond k (cond (same_write r w) a run.Differs) b) next false
+      → same_writes (kept all (r ∷ rs)) (kept all (w ∷ ws)) ≡ if_behind (cond k (cond (same_write r w) a None) b) next false
   unfolding same_writes
   match_kept r w rs ws true a b next e f one two = rw (kept_cons all r rs, kept_cons all w ws, e, f) (go (same_write r w) _ a one)
     where
-      go : (s t : Bool) (a : Run) → t ≡ if_behind a next false → (s && t) ≡ if_behind (cond s a run.Differs) next false
+      go : (s t : Bool) (a : Option Records) → t ≡ if_behind a next false → (s && t) ≡ if_behind (cond s a None) next false
       go true t a one = one
       go false t a one = refl
   match_kept r w rs ws false a b next e f one two = rw (kept_cons all r rs, f) two
@@ -151,40 +133,39 @@ operation_is all master other rest segment left at = go (keeps all segment.targe
   where
     go : (k : Bool) → keeps all segment.target ≡ k
         → rest_same all master other (segment_writes other segment ++ rest) left at
-        ≡ if_behind (cond k (matched_segment all master other left at segment) (run.Behind at left)) (rest_same all master other rest) false
+        ≡ if_behind (cond k (matched_segment all master other left at segment) (Some (record { at = at; left = left }))) (rest_same all master other rest) false
     go true e = match_is all master other rest segment.target e left at segment.address segment.source (source_step segment.copied) segment.count
     go false e = rw (kept_rest all other segment.target segment.address segment.source (source_step segment.copied) segment.count rest e)
 
-pub operation_place : (all : Bool) (master other : List ℕ) (segment : Segment) (left at at' left' : ℕ)
-    → matched_operation all master other left at segment ≡ run.Behind at' left' → at' + left' * record_size ≡ at + left * record_size
+pub operation_place : (all : Bool) (master other : List ℕ) (segment : Segment) (left at : ℕ) (r : Records)
+    → matched_operation all master other left at segment ≡ Some r → r.at + r.left * record_size ≡ at + left * record_size
 unfolding matched_operation
-operation_place all master other segment left at at' left' = go (keeps all segment.target)
+operation_place all master other segment left at r = go (keeps all segment.target)
   where
-    go : (k : Bool) → cond k (matched_segment all master other left at segment) (run.Behind at left) ≡ run.Behind at' left' → at' + left' * record_size ≡ at + left * record_size
-    go true e = matched_place all master other left at segment.target segment.address segment.source (source_step segment.copied) segment.count at' left' e
+    go : (k : Bool) → cond k (matched_segment all master other left at segment) (Some (record { at = at; left = left })) ≡ Some r → r.at + r.left * record_size ≡ at + left * record_size
+    go true e = matched_place all master other left at segment.target segment.address segment.source (source_step segment.copied) segment.count r e
     go false e =
-        let p : at ≡ at' = cc in
-        let q : left ≡ left' = cc in
-        rw (← p, ← q)
+        let p : record { at = at; left = left } ≡ r = cc in
+        rw (← p)
 
-chosen : (r : Run) (same : ℕ → ℕ → Bool) (stop : PartMatch) → cond (if_behind r same false) stop part.Differs ≡ if_behind r (λ (l a : ℕ). cond (same l a) stop part.Differs) part.Differs
-chosen (run.Behind at left) same stop = refl
-chosen run.Differs same stop = refl
+chosen : (r : Option Records) (same : ℕ → ℕ → Bool) (stop : Option ℕ) → cond (if_behind r same false) stop None ≡ if_behind r (λ (l a : ℕ). cond (same l a) stop None) None
+chosen (Some records) same stop = refl
+chosen None same stop = refl
 
 pub part_step : (all : Bool) (master other : List ℕ) (directory left at count from : ℕ) → 0 < count
     → matched_part all master other directory left at count from
     ≡ if_behind (matched_operation all master other left at (segment_at other directory from))
-    (λ (l a : ℕ). matched_part all master other directory l a (count - 1) (segment_at other directory from).next) part.Differs
+    (λ (l a : ℕ). matched_part all master other directory l a (count - 1) (segment_at other directory from).next) None
 unfolding matched_part same_part operation_writes operations_stop
 part_step all master other directory left at zero from h = absurd (not-suc-le-zero h)
 part_step all master other directory left at (suc count) from h =
     let segment = segment_at other directory from in
     rw (less count, operation_is all master other (operation_writes other directory count segment.next) segment left at) (chosen (matched_operation all master other left at segment) _ _)
 
-pub part_end : (all : Bool) (master other : List ℕ) (directory left at from : ℕ)
-    → matched_part all master other directory left at 0 from ≡ cond (same_writes (kept all (record_writes master left at)) []) (part.Same from) part.Differs
+pub part_end : (all : Bool) (master other : List ℕ) (directory left at count from : ℕ) → count ≡ 0
+    → matched_part all master other directory left at count from ≡ cond (same_writes (kept all (record_writes master left at)) []) (Some from) None
 unfolding matched_part same_part operation_writes operations_stop
-part_end all master other directory left at from = rw (kept_none all)
+part_end all master other directory left at count from e = rw (e, kept_none all)
 
 -- the last records against nothing
 pub none_step : (all : Bool) (master : List ℕ) (left at : ℕ) → 0 < left
@@ -201,28 +182,9 @@ none_step all master (suc left) at h =
     go true w ws = refl
     go false w ws = refl
 
-pub none_end : (all : Bool) (master : List ℕ) (at : ℕ) → same_writes (kept all (record_writes master 0 at)) [] ≡ true
+pub none_end : (all : Bool) (master : List ℕ) (left at : ℕ) → left ≡ 0 → same_writes (kept all (record_writes master left at)) [] ≡ true
 unfolding record_writes same_writes
-none_end all master at = rw (kept_none all)
-
--- what the answer for a part says
-pub part_same : (all : Bool) (master other : List ℕ) (directory left at count from next : ℕ) → matched_part all master other directory left at count from ≡ part.Same next
-    → (same_part all master other directory left at count from ≡ true) × (next ≡ operations_stop other directory count from)
-unfolding matched_part
-part_same all master other directory left at count from next = go (same_part all master other directory left at count from)
-  where
-    go : (b : Bool) → cond b (part.Same (operations_stop other directory count from)) part.Differs ≡ part.Same next → (b ≡ true) × (next ≡ operations_stop other directory count from)
-    go true e = (refl, cc)
-    go false e = absurd (let z : ◌≡◌ {A = ℕ} 0 1 = cc in omega arith)
-
-pub part_differs : (all : Bool) (master other : List ℕ) (directory left at count from : ℕ) → matched_part all master other directory left at count from ≡ part.Differs
-    → same_part all master other directory left at count from ≡ false
-unfolding matched_part
-part_differs all master other directory left at count from = go (same_part all master other directory left at count from)
-  where
-    go : (b : Bool) → cond b (part.Same (operations_stop other directory count from)) part.Differs ≡ part.Differs → b ≡ false
-    go true e = absurd (let z : ◌≡◌ {A = ℕ} 0 1 = cc in omega arith)
-    go false e = refl
+none_end all master left at e = rw (e, kept_none all)
 
 -- FRAMES
 
@@ -234,6 +196,6 @@ unfolding same_frames_at
 frames_step master other directory zero at from h = absurd (not-suc-le-zero h)
 frames_step master other directory (suc count) at from h = rw (less count)
 
-pub frames_end_lem : (master other : List ℕ) (directory at from : ℕ) → same_frames_at master other directory 0 at from ≡ true
+pub frames_end_lem : (master other : List ℕ) (directory count at from : ℕ) → count ≡ 0 → same_frames_at master other directory count at from ≡ true
 unfolding same_frames_at
-frames_end_lem master other directory at from = refl
+frames_end_lem master other directory count at from e = rw e

@@ -10,92 +10,80 @@ use bytes_operation::{Decoded, decode_record};
 use bytes_read::{byte_at, item_bytes};
 use compare_segment::{Segment, step_of};
 
-// The records behind those that agree, or that one differs.
+// So many records of the master, from a place on.
 #[derive(Clone, Copy)]
-pub enum Run {
-    Behind { at: usize, left: u32 },
-    Differs,
+pub struct Records {
+    pub at: usize,
+    pub left: u32,
 }
 
 // Whether a write to a target counts: each does in a frame, those to cores in an opening.
 pub fn is_kept(all: bool, target: u8) -> bool
     ensures { result ≡ keeps all target }
 {
-    if all {
-        return true;
-    }
-    target < 2
+    all || target < 2
 }
 
 // Whether a record is a write.
 fn same_record(item: Decoded, target: u8, address: usize, value: u8) -> bool
     ensures { result ≡ same_write (write_by item) (write target address value) }
 {
-    if item.target != target {
-        return false;
-    }
-    if item.address as usize != address {
-        return false;
-    }
-    item.value == value
+    item.target == target && item.address as usize == address && item.value == value
 }
 
-// So many records from a place against a segment.
+// The records behind those that agree with a segment, or `None` where one differs.
+#[tactic(auto, using(crate::proofs::Match::matched_step, crate::proofs::Match::matched_end, crate::proofs::Match::matched_short))]
 fn same_segment(
     master: &[u8],
-    start: usize,
-    records: u32,
+    records: Records,
     all: bool,
     other: &[u8],
     segment: Segment,
-) -> Run
-    requires { (start ≤ 0x1000000000000000) × (segment.source ≤ 0x2000000000000000) }
-    ensures { result ≡ matched_segment all master.now other.now records start segment }
+) -> Option<Records>
+    requires { (records.at ≤ 0x1000000000000000) × (segment.source ≤ 0x2000000000000000) }
+    ensures { result ≡ matched_segment all master.now other.now records.left records.at segment }
 {
-    let mut at = start;
-    let mut left = records;
+    let mut at = records.at;
+    let mut left = records.left;
     let mut count = segment.count;
     let mut address = segment.address as usize;
     let mut source = segment.source;
     let step = step_of(segment.copied);
+    // Not a `for`: a turn takes one of the records left, and one of the writes left only where the record counts.
     while 0 < count {
         if left == 0 {
-            return Run::Differs;
+            return None;
         }
         let item = decode_record(item_bytes(master, at));
         if is_kept(all, item.target) {
             let value = byte_at(other, source);
-            if same_record(item, segment.target, address, value) {
-                count -= 1;
-                address += 1;
-                source += step;
-                at += RECORD_SIZE;
-                left -= 1;
-            } else {
-                return Run::Differs;
+            if !same_record(item, segment.target, address, value) {
+                return None;
             }
-        } else {
-            at += RECORD_SIZE;
-            left -= 1;
+            count -= 1;
+            address += 1;
+            source += step;
         }
+        at += RECORD_SIZE;
+        left -= 1;
     }
-    Run::Behind { at, left }
+    Some(Records { at, left })
 }
 
 // The same for a segment that may not count.
+#[tactic(auto, unfolding(crate::specs::Match::matched_operation))]
 pub fn same_operation(
     master: &[u8],
-    at: usize,
-    left: u32,
+    records: Records,
     all: bool,
     other: &[u8],
     segment: Segment,
-) -> Run
-    requires { (at ≤ 0x1000000000000000) × (segment.source ≤ 0x2000000000000000) }
-    ensures { result ≡ matched_operation all master.now other.now left at segment }
+) -> Option<Records>
+    requires { (records.at ≤ 0x1000000000000000) × (segment.source ≤ 0x2000000000000000) }
+    ensures { result ≡ matched_operation all master.now other.now records.left records.at segment }
 {
     if is_kept(all, segment.target) {
-        return same_segment(master, at, left, all, other, segment);
+        return same_segment(master, records, all, other, segment);
     }
-    Run::Behind { at, left }
+    Some(records)
 }
