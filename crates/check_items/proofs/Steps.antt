@@ -6,9 +6,12 @@ use mathlib.Core.Path.{◌≡◌, refl, ap}
 use native.Mathlib.Nat.{not-suc-le-zero}
 use native.Mathlib.Omega.{arith}
 use lib.Dec.{eqb}
+use Rattle.base_format.specs.declared.operation.Item.{Item}
 use Rattle.base_format.specs.declared.operation.Operation.{Operation}
+use Rattle.base_format.specs.declared.rule.Refusal.{Refusal}
 use Rattle.base_format.specs.Checked.{Checked, ok, refused, mapped, ◌>>=◌}
-use Rattle.base_format.specs.Operation.{Setting, Item, item_at}
+use Rattle.base_format.specs.Operation.{Setting, item_at}
+use Rattle.base_format.specs.Rule.{refusal}
 use Rattle.base_format.specs.Stream.{operations_from}
 use Rattle.base_format.specs.Writes.{target_number, any_si22}
 use Rattle.check_items.specs.Walk.{walk_step, walked_with, walked}
@@ -43,6 +46,15 @@ walk_step_lem seen setting file limit zero at h = absurd (not-suc-le-zero h)
 walk_step_lem seen setting file limit (suc count) at h =
     let less : suc count - 1 ≡ count = omega arith in
     rw less (joined seen (item_at setting file limit at) (λ place. operations_from setting file limit count place))
+
+-- an item that is refused, and one that is read
+module _ (seen : Bool) (setting : Setting) (file : List ℕ) (limit left at : ℕ) where
+  pub walk_refused : (r : Refusal) → 0 < left → refusal r ≡ item_at setting file limit at → walked_with seen setting file limit left at ≡ refusal r
+  walk_refused r h e = rw (walk_step_lem seen setting file limit left at h, ← e)
+
+  pub walk_next : (item : Item) → 0 < left → ok item ≡ item_at setting file limit at
+      → walked_with seen setting file limit left at ≡ walked_with (seen || eqb (target_number item.operation) 11) setting file limit (left - 1) item.next
+  walk_next item h e = rw (walk_step_lem seen setting file limit left at h, ← e)
 
 -- behind the last one
 pub walk_end : (seen : Bool) (setting : Setting) (file : List ℕ) (limit at : ℕ) → walked_with seen setting file limit 0 at ≡ ok (at, seen)

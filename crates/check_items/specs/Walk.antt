@@ -1,8 +1,9 @@
 -- What the loop over operations has still to do.
 use Rattle.std.specs.Prelude.{ℕ, Bool, ◌||◌, List, eqb}
+use Rattle.base_format.specs.declared.operation.Item.{Item}
 use Rattle.base_format.specs.declared.operation.Operation.{Operation}
 use Rattle.base_format.specs.Checked.{Checked, mapped}
-use Rattle.base_format.specs.Operation.{Setting, Item, item_at}
+use Rattle.base_format.specs.Operation.{Setting, item_at}
 use Rattle.base_format.specs.Stream.{operations_from}
 use Rattle.base_format.specs.Writes.{target_number, any_si22}
 

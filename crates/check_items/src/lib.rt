@@ -2,10 +2,7 @@
 #![tactic(auto)]
 
 mod item;
-mod operation;
-mod record;
 mod walk;
 
-pub use check_item_allowed::OperationRead;
 pub use item::read_item;
-pub use walk::{Walked, check_operations};
+pub use walk::check_operations;
