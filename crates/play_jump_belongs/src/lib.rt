@@ -9,43 +9,36 @@ ghost use Rattle.play_jump_belongs.specs.Foreign.{records_differ, foreign_jump};
 
 use base_format::{Part, StreamPlayer};
 use base_next_part::closing_count;
-use base_state::part_of;
 use play_belongs::foreign;
-use play_jump_recorded::{same_cards, same_header};
+use play_jump_recorded::same_cards;
 
 // Whether more closing writes are made than there are.
+#[tactic(auto, unfolding(base_format::specs::Jump::closing_past), using(play_laws::proofs::Planned::closing_count_lem))]
 fn closing_past(state: StreamPlayer) -> bool
     ensures { result ≡ closing_past state (part_of state.progress.part) }
 {
-    let part = part_of(state.progress.part);
-    match part {
-        Part::Between => false,
-        Part::Opening => false,
-        Part::Frame => false,
+    match Part::from(state.progress.part) {
+        Part::Between | Part::Opening | Part::Frame => false,
         Part::Closing => closing_count(state.uses_si22) < state.progress.write_index,
     }
 }
 
 // Whether two states record another header, other cards or another use of target 11.
+#[tactic(auto, unfolding(base_format::specs::Jump::same_header, crate::specs::Foreign::records_differ))]
 fn records_differ(state: StreamPlayer, recorded: StreamPlayer) -> bool
     ensures { result ≡ records_differ state recorded }
 {
-    let header = state.header;
-    let recorded_header = recorded.header;
-    let cards = state.cards;
-    let recorded_cards = recorded.cards;
-    !same_header(header, recorded_header)
-        | !same_cards(cards, recorded_cards)
-        | (state.uses_si22 != recorded.uses_si22)
+    state.header != recorded.header
+        || !same_cards(state.cards, recorded.cards)
+        || state.uses_si22 != recorded.uses_si22
 }
 
 // Whether a state belongs to another file than one of a length, of which a start recorded so.
+#[tactic(auto, unfolding(crate::specs::Foreign::foreign_jump))]
 pub fn jump_foreign(length: usize, state: StreamPlayer, recorded: StreamPlayer) -> bool
     ensures { result ≡ foreign_jump length state recorded }
 {
-    let header = state.header;
-    let progress = state.progress;
-    foreign(length, header, state.cards.count, progress)
-        | closing_past(state)
-        | records_differ(state, recorded)
+    foreign(length, state.header, state.cards.count, state.progress)
+        || closing_past(state)
+        || records_differ(state, recorded)
 }
