@@ -7,6 +7,7 @@ ghost use Rattle.base_format.specs.Header.{period_of, card_count, plain_header, 
 use base_format::{Header, MASTER_HEADER_SIZE, RECORD_SIZE};
 use bytes_read::{byte_at, read_u32};
 
+#[tactic(auto, unfolding(base_format::specs::Header::plain_header))]
 fn plain_header(file: &[u8]) -> Header
     ensures { result ≡ plain_header file.now }
 {
@@ -27,25 +28,22 @@ fn plain_header(file: &[u8]) -> Header
 }
 
 // The period of version 4.
+#[tactic(auto, unfolding(base_format::specs::Header::period_of))]
 fn period_of(file: &[u8], version: u8) -> u32
     ensures { result ≡ period_of version file.now }
 {
-    if version == 4 {
-        return read_u32(file, 40);
-    }
-    0
+    if version == 4 { read_u32(file, 40) } else { 0 }
 }
 
 // The card count of version 4.
+#[tactic(auto, unfolding(base_format::specs::Header::card_count))]
 fn card_count(file: &[u8], version: u8) -> u8
     ensures { result ≡ card_count version file.now }
 {
-    if version == 4 {
-        return byte_at(file, 38);
-    }
-    0
+    if version == 4 { byte_at(file, 38) } else { 0 }
 }
 
+#[tactic(auto, unfolding(base_format::specs::Header::pooled_header))]
 fn pooled_header(file: &[u8], version: u8) -> Header
     ensures { result ≡ pooled_header version file.now }
 {
@@ -65,12 +63,14 @@ fn pooled_header(file: &[u8], version: u8) -> Header
 }
 
 // The fields of the header, by the version.
+#[tactic(auto, unfolding(base_format::specs::Header::header_of))]
 pub fn header_of(file: &[u8]) -> Header
     ensures { result ≡ header_of file.now }
 {
     let version = byte_at(file, 4);
     if version == 1 {
-        return plain_header(file);
+        plain_header(file)
+    } else {
+        pooled_header(file, version)
     }
-    pooled_header(file, version)
 }

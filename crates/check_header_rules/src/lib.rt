@@ -8,63 +8,41 @@ use base_format::{CARDS_HEADER_SIZE, MASTER_HEADER_SIZE, POOLED_HEADER_SIZE};
 use bytes_read::{byte_at, read_u16, read_u32};
 
 // How long the header of a version is.
+#[tactic(auto, unfolding(base_format::specs::Header::header_size))]
 pub fn header_size(version: u8) -> usize
     ensures { result ≡ header_size version }
 {
-    if version == 4 {
-        return CARDS_HEADER_SIZE;
+    match version {
+        4 => CARDS_HEADER_SIZE,
+        2 | 3 => POOLED_HEADER_SIZE,
+        _ => MASTER_HEADER_SIZE,
     }
-    if version == 2 {
-        return POOLED_HEADER_SIZE;
-    }
-    if version == 3 {
-        return POOLED_HEADER_SIZE;
-    }
-    MASTER_HEADER_SIZE
 }
 
+#[tactic(auto, unfolding(base_format::specs::Header::reserved_wrong))]
 fn reserved_wrong(file: &[u8], version: u8) -> bool
     ensures { result ≡ reserved_wrong version file.now }
 {
-    if read_u16(file, 36) as usize != header_size(version) {
-        return true;
-    }
-    if byte_at(file, 39) != 0 {
-        return true;
-    }
-    if version == 4 {
-        if 8 < byte_at(file, 38) {
-            return true;
+    read_u16(file, 36) as usize != header_size(version)
+        || byte_at(file, 39) != 0
+        || if version == 4 {
+            8 < byte_at(file, 38) || read_u32(file, 44) != 0
+        } else {
+            byte_at(file, 38) != 0
         }
-        return read_u32(file, 44) != 0;
-    }
-    byte_at(file, 38) != 0
 }
 
 // What rule 5 asks.
+#[tactic(auto, unfolding(base_format::specs::Header::flags_wrong))]
 pub fn flags_wrong(file: &[u8], version: u8) -> bool
     ensures { result ≡ flags_wrong version file.now }
 {
-    if 1 < byte_at(file, 6) {
-        return true;
-    }
-    if byte_at(file, 7) != 0 {
-        return true;
-    }
-    if version == 1 {
-        return false;
-    }
-    reserved_wrong(file, version)
+    1 < byte_at(file, 6) || byte_at(file, 7) != 0 || version != 1 && reserved_wrong(file, version)
 }
 
+#[tactic(auto, unfolding(base_format::specs::Header::period_wrong))]
 pub fn period_wrong(period: u32) -> bool
     ensures { result ≡ period_wrong period }
 {
-    if period == 0 {
-        return false;
-    }
-    if period < 48000 {
-        return true;
-    }
-    48000000 < period
+    period != 0 && !(48000..=48000000).contains(&period)
 }
