@@ -17,6 +17,7 @@ use Rattle.base_format.specs.Size.{record_size}
 use Rattle.base_format.specs.Writes.{write, upward}
 use Rattle.base_format.proofs.Equal.{played_append}
 use Rattle.compare_segment.specs.Segments.{spread, segment_writes, segment_at, operation_writes, record_write, record_writes}
+use Rattle.compare_segment.proofs.Streams.{spread_fill}
 
 -- the number before one that is not 0
 less : (n : ℕ) → suc n - 1 ≡ n
@@ -31,6 +32,10 @@ pub write_other : (memory : List ℕ) (target address value : ℕ) → eqb targe
 unfolding played
 write_other memory target address value e = rw e
 
+pub write_past : (memory : List ℕ) (address value : ℕ) → length memory ≤ address → played memory (write 2 address value ∷ []) ≡ memory
+unfolding played
+write_past memory address value h = set_out memory address value h
+
 -- ONE VALUE
 
 pub fill_step_lem : (memory : List ℕ) (address count value : ℕ) → 0 < count
@@ -39,9 +44,9 @@ unfolding played upward
 fill_step_lem memory address zero value h = absurd (not-suc-le-zero h)
 fill_step_lem memory address (suc count) value h = rw (less count)
 
-pub fill_end : (memory : List ℕ) (address value : ℕ) → played memory (upward 2 address (replicate 0 value)) ≡ memory
+pub fill_end : (memory : List ℕ) (address count value : ℕ) → count ≡ 0 → played memory (upward 2 address (replicate count value)) ≡ memory
 unfolding played upward
-fill_end memory address value = refl
+fill_end memory address count value e = rw e
 
 -- all of a memory
 replicate_next : (n v : ℕ) (rest : List ℕ) → replicate n v ++ (v ∷ rest) ≡ replicate (n + 1) v ++ rest
@@ -72,9 +77,9 @@ module _ (file : List ℕ) where
   copy_step memory address source step zero h = absurd (not-suc-le-zero h)
   copy_step memory address source step (suc count) h = rw (less count)
 
-  pub copy_end : (memory : List ℕ) (address source step : ℕ) → played memory (spread file 2 address source step 0) ≡ memory
+  pub copy_end : (memory : List ℕ) (address source step count : ℕ) → count ≡ 0 → played memory (spread file 2 address source step count) ≡ memory
   unfolding played spread
-  copy_end memory address source step = refl
+  copy_end memory address source step count e = rw e
 
   -- another target
   pub copy_other : (memory : List ℕ) (target address source step count : ℕ) → eqb target 2 ≡ false → played memory (spread file target address source step count) ≡ memory
@@ -117,6 +122,11 @@ module _ (file : List ℕ) where
           rw long
           (sym (ap (λ (n : ℕ). played memory (spread file 2 address source step n)) split ∙ copy_whole memory address source step room (count - room) end))
 
+  pub fill_min : (memory : List ℕ) (address source count : ℕ) → address ≤ length memory
+      → played memory (upward 2 address (replicate (min count (length memory - address)) (byte file source))) ≡ played memory (spread file 2 address source 0 count)
+  fill_min memory address source count h =
+      rw (← (spread_fill file 2 address source (min count (length memory - address)))) (copy_min memory address source 0 count h)
+
   -- OPERATIONS AND RECORDS
 
   pub operations_step : (memory : List ℕ) (directory count at : ℕ) → 0 < count
@@ -126,9 +136,9 @@ module _ (file : List ℕ) where
   operations_step memory directory zero at h = absurd (not-suc-le-zero h)
   operations_step memory directory (suc count) at h = rw (less count) (played_append memory (segment_writes file (segment_at file directory at)) _)
 
-  pub operations_end_lem : (memory : List ℕ) (directory at : ℕ) → played memory (operation_writes file directory 0 at) ≡ memory
+  pub operations_end_lem : (memory : List ℕ) (directory count at : ℕ) → count ≡ 0 → played memory (operation_writes file directory count at) ≡ memory
   unfolding operation_writes played
-  operations_end_lem memory directory at = refl
+  operations_end_lem memory directory count at e = rw e
 
   pub records_step : (memory : List ℕ) (count at : ℕ) → 0 < count
       → played memory (record_writes file count at) ≡ played (played memory (record_write file at ∷ [])) (record_writes file (count - 1) (at + record_size))
@@ -136,9 +146,9 @@ module _ (file : List ℕ) where
   records_step memory zero at h = absurd (not-suc-le-zero h)
   records_step memory (suc count) at h = rw (less count)
 
-  pub records_end : (memory : List ℕ) (at : ℕ) → played memory (record_writes file 0 at) ≡ memory
+  pub records_end : (memory : List ℕ) (count at : ℕ) → count ≡ 0 → played memory (record_writes file count at) ≡ memory
   unfolding record_writes played
-  records_end memory at = refl
+  records_end memory count at e = rw e
 
 -- a memory keeps its length
 pub played_length : (memory : List ℕ) (writes : List WriteRecord) → length (played memory writes) ≡ length memory

@@ -9,32 +9,24 @@ ghost use Rattle.compare_segment.specs.Segments.{spread};
 use bytes_read::byte_at;
 
 // One value, so often.
+#[tactic(auto, using(crate::proofs::Image::fill_step_lem, crate::proofs::Image::fill_end))]
 pub fn fill(image: &mut [u8], address: usize, count: usize, value: u8)
     requires { address + count ≤ length image.old }
     ensures { image.new ≡ played image.old (upward 2 address (replicate count value)) }
 {
-    let mut at = address;
-    let mut left = count;
-    while 0 < left {
-        image[at] = value;
-        at += 1;
-        left -= 1;
+    for i in 0..count {
+        image[address + i] = value;
     }
 }
 
 // So many bytes of a file.
+#[tactic(auto, using(crate::proofs::Image::copy_step, crate::proofs::Image::copy_end))]
 pub fn copy(image: &mut [u8], address: usize, count: usize, file: &[u8], source: usize)
     requires { (address + count ≤ length image.old) × (source ≤ 0x2000000000000000) × (count ≤ 0x100000000) }
     ensures { image.new ≡ played image.old (spread file.now 2 address source 1 count) }
 {
-    let mut at = address;
-    let mut left = count;
-    let mut from = source;
-    while 0 < left {
-        image[at] = byte_at(file, from);
-        at += 1;
-        from += 1;
-        left -= 1;
+    for i in 0..count {
+        image[address + i] = byte_at(file, source + i);
     }
 }
 
@@ -42,5 +34,5 @@ pub fn copy(image: &mut [u8], address: usize, count: usize, file: &[u8], source:
 pub fn begin_image(image: &mut [u8])
     ensures { image.new ≡ replicate (length image.old) 0x80 }
 {
-    fill(image, 0, image.len(), 0x80);
+    image.fill(0x80);
 }

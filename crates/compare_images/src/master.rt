@@ -10,6 +10,7 @@ use bytes_read::item_bytes;
 use compare_image_bytes::begin_image;
 
 // The write of the record at a place.
+#[tactic(auto, using(compare_image_bytes::proofs::Image::write_in, compare_image_bytes::proofs::Image::write_other, compare_image_bytes::proofs::Image::write_past))]
 fn play_record(file: &[u8], at: usize, image: &mut [u8])
     ensures { image.new ≡ played image.old (record_write file.now at ∷ []) }
 {
@@ -25,16 +26,13 @@ fn play_record(file: &[u8], at: usize, image: &mut [u8])
 }
 
 // The writes of so many records from a place.
+#[tactic(auto, using(compare_image_bytes::proofs::Image::records_step, compare_image_bytes::proofs::Image::records_end))]
 fn play_records(file: &[u8], start: usize, count: u32, image: &mut [u8])
     requires { start ≤ 0x1000000000 }
     ensures { image.new ≡ played image.old (record_writes file.now count start) }
 {
-    let mut at = start;
-    let mut left = count;
-    while 0 < left {
-        play_record(file, at, image);
-        at += RECORD_SIZE;
-        left -= 1;
+    for i in 0..count {
+        play_record(file, start + i as usize * RECORD_SIZE, image);
     }
 }
 
