@@ -1,3 +1,4 @@
 pub mod Empty
 pub mod FrameWalk
 pub mod Steps
+pub mod Turn
