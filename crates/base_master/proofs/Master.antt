@@ -13,7 +13,8 @@ use Rattle.base_format.specs.declared.operation.Operation.{Operation}
 use Rattle.base_format.specs.Bytes.{byte, be}
 use Rattle.base_format.specs.Checked.{ok}
 use Rattle.base_format.specs.Header.{plain_header, pooled_header, header_of}
-use Rattle.base_format.specs.Operation.{Setting, Item, record_at, operation_at, item_at}
+use Rattle.base_format.specs.declared.operation.Item.{Item}
+use Rattle.base_format.specs.Operation.{Setting, record_at, operation_at, item_at}
 use Rattle.base_format.specs.Repack.{repacked}
 use Rattle.base_format.specs.Stream.{Stream, operations_from, frames_from, read}
 use Rattle.base_format.proofs.Accepted.{accepted, setting_for}

@@ -15,7 +15,8 @@ use Rattle.base_format.specs.Bytes.{AllBytes, byte, be, bytes_of_all, u16}
 use Rattle.base_format.specs.Checked.{ok}
 use Rattle.base_format.specs.Limits.{Each, OperationFits, FrameFits}
 use Rattle.base_format.specs.Pool.{no_pool, Payload}
-use Rattle.base_format.specs.Operation.{Setting, Item, address_width, size_of, fields_at, write_rules, fill_rules, allowed, operation_at, record_at, item_at}
+use Rattle.base_format.specs.declared.operation.Item.{Item}
+use Rattle.base_format.specs.Operation.{Setting, address_width, size_of, fields_at, write_rules, fill_rules, allowed, operation_at, record_at, item_at}
 use Rattle.base_format.specs.Stream.{operations_from, frames_from}
 use Rattle.base_format.specs.Target.{target_of, missing, write_limit, outside}
 use Rattle.base_format.specs.Written.{operation_fields, without_first, item_bytes, operations_bytes, frames_bytes}

@@ -2,7 +2,6 @@
 #![tactic(auto)]
 
 ghost use Rattle.std.specs.Prelude.{◌≡◌};
-ghost use Rattle.std.specs.Bool.{beq};
 ghost use Rattle.compare_accepted.specs.Accepted.{FramesWithin, frames_agree, agree_by, Drawn};
 
 use base_format::{Header, MASTER_HEADER_SIZE, RECORD_SIZE};
@@ -10,36 +9,26 @@ use bytes_same::same_bytes;
 use compare_images::{draw_master, draw_other};
 use compare_writes::{same_frames, same_opening};
 
-fn same_bool(a: bool, b: bool) -> bool
-    ensures { result ≡ beq a b }
-{
-    if a {
-        return b;
-    }
-    !b
-}
-
 // The frames, if there are equally many.
+#[tactic(auto, unfolding(crate::specs::Accepted::frames_agree))]
 fn frames_agree(master: &[u8], header: Header, other: &[u8], other_header: Header) -> bool
     requires { FramesWithin header other_header }
     ensures { result ≡ frames_agree master.now header other.now other_header }
 {
-    if header.frame_count != other_header.frame_count {
-        return false;
-    }
     let start = MASTER_HEADER_SIZE as u32 + header.initial_count * RECORD_SIZE as u32;
-    let other_start = other_header.frame_start as u32;
-    same_frames(
-        master,
-        start,
-        other,
-        other_header.directory_offset,
-        other_start,
-        header.frame_count,
-    )
+    header.frame_count == other_header.frame_count
+        && same_frames(
+            master,
+            start,
+            other,
+            other_header.directory_offset,
+            other_header.frame_start as u32,
+            header.frame_count,
+        )
 }
 
 // Whether the files agree, with the images that were drawn of them.
+#[tactic(auto, unfolding(crate::specs::Accepted::agree_by))]
 fn agree_by(
     master: &[u8],
     header: Header,
@@ -51,23 +40,17 @@ fn agree_by(
     requires { FramesWithin header other_header }
     ensures { result ≡ agree_by master.now header other.now other_header image.now other_image.now }
 {
-    if !same_bool(header.repeat, other_header.repeat) {
-        return false;
-    }
-    if !same_opening(
-        master,
-        header.initial_count,
-        other,
-        other_header.directory_offset,
-        other_header.initial_start,
-        other_header.initial_count,
-    ) {
-        return false;
-    }
-    if !same_bytes(image, other_image) {
-        return false;
-    }
-    frames_agree(master, header, other, other_header)
+    header.repeat == other_header.repeat
+        && same_opening(
+            master,
+            header.initial_count,
+            other,
+            other_header.directory_offset,
+            other_header.initial_start,
+            other_header.initial_count,
+        )
+        && same_bytes(image, other_image)
+        && frames_agree(master, header, other, other_header)
 }
 
 // Draws both images, and says whether the files agree.
