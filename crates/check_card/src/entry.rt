@@ -12,9 +12,7 @@ fn read_id(file: &[u8], at: usize) -> [u8; 16]
     ensures { result ≡ part file.now at 16 }
 {
     let mut id = [0; 16];
-    for i in 0..16 {
-        id[i] = file[at + i];
-    }
+    id.copy_from_slice(&file[at..at + 16]);
     id
 }
 
@@ -23,13 +21,12 @@ pub fn read_card(file: &[u8], at: usize) -> CardRequirement
     requires { at + 32 ≤ length file.now }
     ensures { result ≡ card_at file.now at }
 {
-    let id = read_id(file, at + 16);
     CardRequirement {
         slot: byte_at(file, at),
         id_length: byte_at(file, at + 1),
         id_offset: read_u32(file, at + 4),
         bulk_start: read_u32(file, at + 8),
         bulk_length: read_u32(file, at + 12),
-        id: id,
+        id: read_id(file, at + 16),
     }
 }

@@ -11,62 +11,42 @@ use bytes_read::byte_at;
 fn padding(byte: u8, place: usize, id_length: u8) -> u8
     ensures { result ≡ padding_at byte place id_length }
 {
-    if place < id_length as usize {
-        return 0;
-    }
-    byte
+    if place < id_length as usize { 0 } else { byte }
 }
 
 // Whether a byte of the name behind its length is not 0. All bytes are read, without a branch, so that the compiler takes them at once.
+#[tactic(auto, using(crate::proofs::Zeros::padding_first, crate::proofs::Zeros::padding_step, crate::proofs::Zeros::padding_last))]
 fn padding_wrong(id: [u8; 16], id_length: u8) -> bool
     ensures { result ≡ not (all_zero (drop id_length id)) }
 {
-    let mut some: u8 = 0;
-    let mut i: usize = 0;
-    while i < 16 {
-        some = some | padding(id[i], i, id_length);
-        i += 1;
+    let mut some = 0;
+    for (place, byte) in id.iter().enumerate() {
+        some |= padding(*byte, place, id_length);
     }
     some != 0
 }
 
 // Whether a card breaks a rule that speaks of one card.
+#[tactic(auto, unfolding(base_format::specs::Card::one_card_wrong))]
 pub fn one_card_wrong(card: CardRequirement) -> bool
     ensures { result ≡ one_card_wrong card }
 {
-    if 7 < card.slot {
-        return true;
-    }
-    let id_length = card.id_length;
-    if id_length == 0 {
-        return true;
-    }
-    if 16 < id_length {
-        return true;
-    }
-    let id = card.id;
-    if padding_wrong(id, id_length) {
-        return true;
-    }
-    if 0x2000000 < card.id_offset as u64 + id_length as u64 {
-        return true;
-    }
-    0x2000000 < card.bulk_start as u64 + card.bulk_length as u64
+    7 < card.slot
+        || card.id_length == 0
+        || 16 < card.id_length
+        || padding_wrong(card.id, card.id_length)
+        || 0x2000000 < card.id_offset as u64 + card.id_length as u64
+        || 0x2000000 < card.bulk_start as u64 + card.bulk_length as u64
 }
 
 // Whether the card at a place breaks a card rule; its slot is at least `least`.
+#[tactic(auto, unfolding(base_format::specs::Card::card_wrong), using(crate::proofs::Zeros::zeros_two))]
 pub fn card_wrong(file: &[u8], at: usize, least: u8, card: CardRequirement) -> bool
     requires { at + 32 ≤ length file.now }
     ensures { result ≡ card_wrong file.now at least card }
 {
-    if card.slot < least {
-        return true;
-    }
-    if byte_at(file, at + 2) != 0 {
-        return true;
-    }
-    if byte_at(file, at + 3) != 0 {
-        return true;
-    }
-    one_card_wrong(card)
+    card.slot < least
+        || byte_at(file, at + 2) != 0
+        || byte_at(file, at + 3) != 0
+        || one_card_wrong(card)
 }
