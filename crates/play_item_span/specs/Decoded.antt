@@ -1,10 +1,11 @@
 -- The item at a place as its bytes say, without the rules 15 to 19. It is for items that an earlier pass has checked. An item that passes
 -- the file's end is refused, so that the place behind an item is one of the file.
 use Rattle.std.specs.Prelude.{ℕ, ◌+◌, cond, List, eqb, ltb, length}
+use Rattle.base_format.specs.declared.operation.Item.{Item}
 use Rattle.base_format.specs.declared.operation.Operation.TheVariants.{Write}
 use Rattle.base_format.specs.Bytes.{byte, be}
 use Rattle.base_format.specs.Checked.{Checked, ok, refuse, ◌>>◌}
-use Rattle.base_format.specs.Operation.{Item, address_width, size_of, fields_at}
+use Rattle.base_format.specs.Operation.{address_width, size_of, fields_at}
 
 -- a record of version 1
 unfoldable pub record_decoded : List ℕ → (at : ℕ) → Checked Item

@@ -1,19 +1,18 @@
 // The writes of an item as numbers alone: no enum is made or taken apart for each of them.
 ghost use Rattle.std.specs.Prelude.{◌≡◌};
 ghost use Rattle.base_format.specs.Pool.{pool_at};
-ghost use Rattle.play_item_span.specs.Span.{no_span, value_span, copy_span, span_of};
+ghost use Rattle.play_item_span.specs.Span.{value_span, copy_span, span_of};
 
 use base_format::{ENTRY_SIZE, Operation};
 use bytes_read::read_u32;
 
-// `count` writes to a target, upward from an address. Where no item is known all else is 0.
+// `count` writes to a target, upward from an address.
 #[derive(Clone, Copy)]
 pub struct Span {
-    pub known: bool,
     pub target: u8,
     pub address: u32,
     pub count: u32,
-    // Of one value, or, where `copied`, of the bytes from `source` on of the pool at `offset`.
+    // Of one value, or, where `copied`, of the bytes from `source` on of the pool at `offset`: a flag, for speed.
     pub copied: bool,
     pub value: u8,
     pub offset: u32,
@@ -22,37 +21,19 @@ pub struct Span {
     pub next: usize,
 }
 
-// No item.
-pub fn no_span() -> Span
-    ensures { result ≡ no_span }
-{
-    Span {
-        known: false,
-        target: 0,
-        address: 0,
-        count: 0,
-        copied: false,
-        value: 0,
-        offset: 0,
-        source: 0,
-        next: 0,
-    }
-}
-
 // So many writes of one value.
 pub fn value_span(target: u8, address: u32, count: u32, value: u8, next: usize) -> Span
     ensures { result ≡ value_span target address count value next }
 {
     Span {
-        known: true,
-        target: target,
-        address: address,
-        count: count,
+        target,
+        address,
+        count,
         copied: false,
-        value: value,
+        value,
         offset: 0,
         source: 0,
-        next: next,
+        next,
     }
 }
 
@@ -78,15 +59,14 @@ pub fn copy_span(
 {
     let offset = pool_offset(file, directory, id);
     Span {
-        known: true,
-        target: target,
-        address: address,
-        count: count,
+        target,
+        address,
+        count,
         copied: true,
         value: 0,
-        offset: offset,
-        source: source,
-        next: next,
+        offset,
+        source,
+        next,
     }
 }
 
