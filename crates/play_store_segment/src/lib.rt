@@ -20,21 +20,16 @@ pub struct Segment {
 
 // How many of a segment's records are stored: all of them if they fit into the run from a place on, into the addresses and, where
 // they are copied, into the file, and else none.
+#[tactic(auto, unfolding(crate::specs::Segment::too_long, crate::specs::Segment::fitting))]
 fn fitting(room: usize, at: usize, size: usize, segment: Segment) -> usize
     ensures { result ≡ fitting room at size segment }
 {
     let count = segment.count;
-    if passes(room, at, count) {
+    if passes(room, at, count)
+        || passes(0x100000000, segment.address as usize, count)
+        || segment.copied && passes(size, segment.from, count)
+    {
         return 0;
-    }
-    if passes(0x100000000, segment.address as usize, count) {
-        return 0;
-    }
-    if segment.copied {
-        if passes(size, segment.from, count) {
-            return 0;
-        }
-        return count;
     }
     count
 }
@@ -44,19 +39,16 @@ pub fn store_segment(run: &mut [WriteRecord], at: usize, file: &[u8], segment: S
     ensures { run.new ≡ segment_stored file.now segment at run.old }
 {
     let count = fitting(run.len(), at, file.len(), segment);
-    let mut i = 0;
-    while i < count {
+    for i in 0..count {
         let value = if segment.copied {
             file[segment.from + i]
         } else {
             segment.value
         };
-        let record = WriteRecord {
+        run[at + i] = WriteRecord {
             target: segment.target,
             address: segment.address + (i as u32),
-            value: value,
+            value,
         };
-        run[at + i] = record;
-        i = i + 1;
     }
 }
