@@ -7,10 +7,11 @@ use native.Mathlib.Omega.{arith}
 use borrow.Author.Tests.{le-ltb}
 use lib.Dec.{eqb}
 use lib.ListN.{length}
+use Rattle.base_format.specs.declared.operation.Item.{Item}
 use Rattle.base_format.specs.declared.player.StreamPlayer.{StreamPlayer}
 use Rattle.base_format.specs.Bytes.{byte}
 use Rattle.base_format.specs.Checked.{ok}
-use Rattle.base_format.specs.Operation.{Setting, Item, address_width, operation_at, record_at, item_at}
+use Rattle.base_format.specs.Operation.{Setting, address_width, operation_at, record_at, item_at}
 use Rattle.base_format.specs.Player.{setting_in}
 use Rattle.base_format.proofs.Checks.{cond_false}
 use Rattle.base_format.proofs.Steps.{size_here, record_is, operation_is}

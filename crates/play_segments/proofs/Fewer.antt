@@ -4,10 +4,10 @@ use mathlib.Core.Bool.{Bool, true, false, cond}
 use mathlib.Core.List.{List}
 use native.Mathlib.Omega.{arith}
 use lib.Dec.{leb}
+use Rattle.base_format.specs.declared.operation.Item.{Item}
 use Rattle.base_format.specs.declared.operation.Operation.{Operation}
 use Rattle.base_format.specs.declared.player.StreamPlayer.{StreamPlayer}
 use Rattle.base_format.specs.Checked.{Checked, ok, refused}
-use Rattle.base_format.specs.Operation.{Item}
 use Rattle.play_laws.specs.Plan.{count_of}
 use Rattle.play_segments.specs.declared.place.Place.{Place}
 use Rattle.play_segments.specs.declared.place.Turn.{Turn}

@@ -1,5 +1,5 @@
 -- The turn of an item whose writes are numbers alone.
-use Rattle.std.specs.Prelude.{ℕ, ◌+◌, ◌-◌, Bool, cond, not, ◌||◌, leb, ltb}
+use Rattle.std.specs.Prelude.{ℕ, ◌+◌, ◌-◌, min, Bool, cond, ◌||◌, leb, ltb}
 use Rattle.play_store_segment.specs.declared.Segment.{Segment}
 use Rattle.play_segments.specs.declared.place.Place.{Place}
 use Rattle.play_segments.specs.declared.place.Turn.{Turn}
@@ -7,13 +7,9 @@ use Rattle.play_item_span.specs.declared.span.Span.{Span}
 use Rattle.play_segments.specs.Place.{stopped, onward, run_place}
 use Rattle.play_segments.specs.Turn.{halted}
 
--- there is no item, more writes are done than there are, or the next one's address has more than 32 bits
+-- more writes are done than there are, or the next one's address has more than 32 bits
 unfoldable pub span_ended : Span → (done : ℕ) → Bool
-span_ended span done = not span.known || ltb span.count done || ltb 0xFFFFFFFF (span.address + done)
-
--- of the writes that are left, those that there is room for
-abbrev pub fitted : (room rest : ℕ) → ℕ
-fitted room rest = cond (leb room rest) room rest
+span_ended span done = ltb span.count done || ltb 0xFFFFFFFF (span.address + done)
 
 -- where the copied bytes begin behind those that are done
 abbrev pub from_behind : Span → (done : ℕ) → ℕ
@@ -32,4 +28,4 @@ unfoldable pub span_turn : Place → Span → Turn
 span_turn place span =
     let rest = span.count - place.done in
     cond (span_ended span place.done) (halted place)
-    (record { at = run_place place; segment = span_segment span place.done (fitted place.room rest); place = place_behind place span.next rest })
+    (record { at = run_place place; segment = span_segment span place.done (min place.room rest); place = place_behind place span.next rest })

@@ -2,14 +2,15 @@
 ghost use Rattle.std.specs.Prelude.{◌≡◌, ◌-◌};
 ghost use Rattle.play_segments.specs.Closing.{closing_segment};
 
-use crate::place::{less, one_value};
+use crate::place::one_value;
 use play_store_segment::Segment;
 
 // The next closing write, where so many are left.
+#[tactic(auto, unfolding(crate::specs::Closing::closing_segment))]
 pub fn closing_segment(left: usize) -> Segment
     ensures { result ≡ closing_segment (33 - left) }
 {
-    let index = less(33, left);
+    let index = 33_usize.saturating_sub(left);
     if index == 0 {
         return one_value(11, 0x0C, 1, 0);
     }

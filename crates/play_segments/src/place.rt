@@ -1,11 +1,12 @@
 // How far the storing of a call's records is, and how it goes on.
-ghost use Rattle.std.specs.Prelude.{◌≡◌, ◌-◌};
+ghost use Rattle.std.specs.Prelude.{◌≡◌};
 ghost use Rattle.play_segments.specs.Place.{one_value, stopped, next_cursor, onward};
 
 use play_store_segment::Segment;
 
 // `left` closing writes, or operations, are still to do. Of these operations `opening` belong to the opening, and the frame's first one
-// stands at `after`; `done` writes of the operation at `cursor` were made. Of `total` records `room` are free.
+// stands at `after`; `done` writes of the operation at `cursor` were made. Of `total` records `room` are free. `closing` is a flag and no enum:
+// both kinds count down `left` and take from the room in the same way.
 #[derive(Clone, Copy)]
 pub struct Place {
     pub closing: bool,
@@ -26,26 +27,16 @@ pub struct Turn {
     pub place: Place,
 }
 
-// The difference, 0 where it would be below 0.
-pub fn less(a: usize, b: usize) -> usize
-    ensures { result ≡ a - b }
-{
-    if a < b {
-        return 0;
-    }
-    a - b
-}
-
 // So many records of one value, upward from an address.
 pub fn one_value(target: u8, address: u32, count: usize, value: u8) -> Segment
     ensures { result ≡ one_value target address count value }
 {
     Segment {
-        target: target,
-        address: address,
-        count: count,
+        target,
+        address,
+        count,
         copied: false,
-        value: value,
+        value,
         from: 0,
     }
 }
@@ -54,16 +45,7 @@ pub fn one_value(target: u8, address: u32, count: usize, value: u8) -> Segment
 pub fn stopped(place: Place) -> Place
     ensures { result ≡ stopped place }
 {
-    Place {
-        closing: place.closing,
-        left: 0,
-        opening: place.opening,
-        after: place.after,
-        cursor: place.cursor,
-        done: place.done,
-        total: place.total,
-        room: place.room,
-    }
+    Place { left: 0, ..place }
 }
 
 // Where the next operation is: at the cursor, unless it is the frame's first one.
@@ -81,13 +63,11 @@ pub fn onward(place: Place, cursor: usize, taken: usize) -> Place
     ensures { result ≡ onward place cursor taken }
 {
     Place {
-        closing: place.closing,
-        left: less(place.left, 1),
-        opening: less(place.opening, 1),
-        after: place.after,
+        left: place.left.saturating_sub(1),
+        opening: place.opening.saturating_sub(1),
         cursor: next_cursor(place, cursor),
         done: 0,
-        total: place.total,
-        room: less(place.room, taken),
+        room: place.room.saturating_sub(taken),
+        ..place
     }
 }

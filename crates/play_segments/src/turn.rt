@@ -1,11 +1,11 @@
 // One segment of a call's records, and the place behind it. A turn of an operation is made at one place: the count and the place behind
 // the segment are chosen first.
 ghost use Rattle.std.specs.Prelude.{◌≡◌};
-ghost use Rattle.play_segments.specs.SpanTurn.{span_ended, fitted, from_behind, place_behind, span_turn};
+ghost use Rattle.play_segments.specs.SpanTurn.{span_ended, from_behind, place_behind, span_turn};
 ghost use Rattle.play_segments.specs.Turn.{halted, closing_turn, turn};
 
 use crate::closing::closing_segment;
-use crate::place::{Place, Turn, less, one_value, onward, stopped};
+use crate::place::{Place, Turn, one_value, onward, stopped};
 use base_format::StreamPlayer;
 use play_item_span::{Span, read_span};
 use play_store_segment::Segment;
@@ -14,58 +14,36 @@ use play_store_segment::Segment;
 fn halted(place: Place) -> Turn
     ensures { result ≡ halted place }
 {
-    let segment = one_value(0, 0, 0, 0);
-    let end = stopped(place);
     Turn {
-        at: less(place.total, place.room),
-        segment: segment,
-        place: end,
+        at: place.total.saturating_sub(place.room),
+        segment: one_value(0, 0, 0, 0),
+        place: stopped(place),
     }
 }
 
 // The next closing write.
+#[tactic(auto, unfolding(crate::specs::Turn::closing_turn))]
 fn closing_turn(place: Place) -> Turn
     ensures { result ≡ closing_turn place }
 {
-    let segment = closing_segment(place.left);
-    let at = less(place.total, place.room);
-    if place.room <= 1 {
-        let end = stopped(place);
-        return Turn {
-            at: at,
-            segment: segment,
-            place: end,
-        };
-    }
-    let next = onward(place, place.cursor, 1);
+    let next = if place.room <= 1 {
+        stopped(place)
+    } else {
+        onward(place, place.cursor, 1)
+    };
     Turn {
-        at: at,
-        segment: segment,
+        at: place.total.saturating_sub(place.room),
+        segment: closing_segment(place.left),
         place: next,
     }
 }
 
-// Whether there is no item, more writes are done than there are, or the next one's address would wrap.
+// Whether more writes are done than there are, or the next one's address would wrap.
+#[tactic(auto, unfolding(crate::specs::SpanTurn::span_ended))]
 fn span_ended(span: Span, done: u32) -> bool
     ensures { result ≡ span_ended span done }
 {
-    if !span.known {
-        return true;
-    }
-    if span.count < done {
-        return true;
-    }
-    0xFFFFFFFF < span.address as u64 + done as u64
-}
-
-// Of the writes that are left, those that there is room for.
-fn fitted(room: usize, rest: usize) -> usize
-    ensures { result ≡ fitted room rest }
-{
-    if room <= rest {
-        return room;
-    }
-    rest
+    span.count < done || 0xFFFFFFFF < span.address as u64 + done as u64
 }
 
 // Where the copied bytes begin behind so many.
@@ -89,6 +67,7 @@ fn place_behind(place: Place, next: usize, rest: usize) -> Place
 }
 
 // The writes of an item that are left, as many as there is room for.
+#[tactic(auto, unfolding(crate::specs::SpanTurn::span_turn), using(crate::proofs::SpanTurns::goes_on_lem))]
 fn span_turn(place: Place, span: Span) -> Turn
     ensures { result ≡ span_turn place span }
 {
@@ -100,20 +79,20 @@ fn span_turn(place: Place, span: Span) -> Turn
     let segment = Segment {
         target: span.target,
         address: span.address + done,
-        count: fitted(place.room, rest),
+        count: place.room.min(rest),
         copied: span.copied,
         value: span.value,
         from: from_behind(span, done),
     };
-    let next = place_behind(place, span.next, rest);
     Turn {
-        at: less(place.total, place.room),
-        segment: segment,
-        place: next,
+        at: place.total.saturating_sub(place.room),
+        segment,
+        place: place_behind(place, span.next, rest),
     }
 }
 
 // The next segment. Where no item is decoded there is none.
+#[tactic(auto, unfolding(crate::specs::Turn::turn), using(crate::proofs::SpanTurns::some_turns, crate::proofs::SpanTurns::none_turns))]
 pub fn next_segment(file: &[u8], state: StreamPlayer, place: Place) -> Turn
     ensures { result ≡ turn file.now state place }
 {
@@ -126,5 +105,8 @@ pub fn next_segment(file: &[u8], state: StreamPlayer, place: Place) -> Turn
         state.header.directory_offset,
         place.cursor,
     );
-    span_turn(place, span)
+    match span {
+        Some(span) => span_turn(place, span),
+        None => halted(place),
+    }
 }
