@@ -4,4 +4,4 @@
 mod body;
 mod opening;
 
-pub use body::{BodyRead, check_body};
+pub use body::check_body;
