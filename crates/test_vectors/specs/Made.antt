@@ -1,10 +1,27 @@
 -- A call that fills lent memory.
-use Rattle.std.specs.Prelude.{◌≡◌, ℕ, Bool, true, List, drop, replicate}
-use Rattle.std.specs.Fn.{Once, FnOnceReturnsAtMut}
-use denote.Ref.{MutBor}
+use Rattle.std.specs.Prelude.{◌≡◌, ℕ, List, drop, replicate, Result}
+use Rattle.std.specs.Fn.{Once}
+use denote.Ref.{Bor, MutBor}
+use Rattle.base_format.specs.declared.rule.Refusal.{Refusal}
+use Rattle.test_vectors.specs.declared.answer.Answer.{Answer}
+use Rattle.test_vectors.specs.Told.{told}
 
--- the call is lent so many bytes 0xA5 and answers true; behind a size it leaves them as they were
-pub record Made {F : Type 0} (g : Once F (MutBor (List ℕ) × Unit {0}) (Bool × (MutBor (List ℕ) × Unit {0}))) (make : F) (room size : ℕ) : Type 0 where
-  pub made : List ℕ
-  pub called : FnOnceReturnsAtMut g make (replicate room 0xA5) true made
-  pub behind : drop size made ≡ drop size (replicate room 0xA5)
+module _ {F : Type 0} (g : Once F (Bor (List ℕ) × (MutBor (List ℕ) × Unit {0})) (Result ℕ Refusal × (MutBor (List ℕ) × Unit {0}))) (make : F) where
+  -- a call may answer so of a file and lent bytes, and leave others
+  pub record Makes (before : List ℕ) (stored : Answer) (behind : List ℕ) : Type 0 where
+    pub file : Bor (List ℕ)
+    pub lent : MutBor (List ℕ)
+    pub left : MutBor (List ℕ)
+    pub answer : Result ℕ Refusal
+    pub called : g.post make (file, (lent, tt)) (answer, (left, tt))
+    pub lends : lent.now ≡ before
+    pub leaves : left.now ≡ behind
+    pub tells : told answer ≡ stored
+
+  -- it may do so of bytes 0xA5, and leave them as they were behind the size that it answers
+  pub record MadeOf : Type 0 where
+    pub room : ℕ
+    pub stored : Answer
+    pub expected : List ℕ
+    pub makes : Makes (replicate room 0xA5) stored expected
+    pub as_lent : drop stored.value expected ≡ drop stored.value (replicate room 0xA5)

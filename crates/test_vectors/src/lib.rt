@@ -14,7 +14,7 @@ ghost use Rattle.test_vectors.specs.Replays.{ReplaysAtMost, ReplaysSteps};
 ghost use Rattle.test_vectors.specs.Front.{ReadFront};
 
 pub use answer::Answer;
-pub use made::is_made;
+pub use made::{Lent, replay_made};
 use std::io::{ErrorKind, Read};
 use std::ops::AddAssign;
 use std::{fmt, io};
