@@ -6,11 +6,18 @@ use borrow.Author.Tests.{lt-ltb, le-ltb}
 use lib.Dec.{lit≤}
 use lib.ListN.{length}
 use Rattle.base_format.specs.declared.operation.Operation.TheVariants.{Fill, Copy}
+use Rattle.base_format.specs.Checked.{ok}
 use Rattle.base_format.specs.Operation.{size_of}
 use Rattle.base_format.specs.Written.{item_bytes, operations_bytes}
-use Rattle.base_master.specs.Result.{core_bytes}
+use Rattle.base_master.specs.Places.{records_at}
+use Rattle.base_master.specs.Result.{pcm_from, core_bytes}
+use Rattle.base_master.proofs.Result.{pcm_none}
 use Rattle.bytes_put_operation.proofs.Operations.{operation_long, item_two}
 use Rattle.repack_put_opening.specs.Opening.{fill_part, copy_part, opening_part}
+
+-- no record is left
+pub pcm_end : (file : List ℕ) (from count at : ℕ) → count ≡ 0 → pcm_from from (records_at file count at) ≡ ok from
+pcm_end file from count at e = rw (e, pcm_none)
 
 pub no_fill : (pcm : ℕ) → pcm ≡ 0 → fill_part pcm ≡ []
 unfolding fill_part operations_bytes

@@ -14,36 +14,27 @@ use bytes_operation_size::operation_size;
 use bytes_put_operation::{put_copy, put_fill};
 use repack_put_items::{WIDTH, put_record, record_at};
 
-// The opening's PCM records: how many there are, if their addresses run 0, 1, 2 and so on.
-#[derive(Clone, Copy)]
-pub enum PcmRun {
-    InOrder(usize),
-    OutOfOrder,
-}
-
-// The PCM records of an opening of so many records.
-pub fn pcm_run(file: &[u8], count: usize) -> PcmRun
+// How many PCM records an opening of so many records has, or `None` where their addresses do not run 0, 1, 2 and so on.
+#[tactic(auto, using(crate::proofs::Opening::pcm_end, base_master::proofs::Result::pcm_wrong))]
+pub fn pcm_run(file: &[u8], count: usize) -> Option<usize>
     requires { master_header_size + count * record_size ≤ length file.now }
     ensures { pcm_in result ≡ pcm_from 0 (records_at file.now count 20) }
 {
-    let mut at = MASTER_HEADER_SIZE;
-    let mut left = count;
     let mut pcm: usize = 0;
-    while 0 < left {
-        let record = record_at(file, at);
+    for i in 0..count {
+        let record = record_at(file, MASTER_HEADER_SIZE + i * RECORD_SIZE);
         if record.target == 2 {
             if record.address as usize != pcm {
-                return PcmRun::OutOfOrder;
+                return None;
             }
             pcm += 1;
         }
-        at += RECORD_SIZE;
-        left -= 1;
     }
-    PcmRun::InOrder(pcm)
+    Some(pcm)
 }
 
 // How many bytes the FILL takes.
+#[tactic(auto, using(crate::proofs::Opening::no_fill, crate::proofs::Opening::full_fill, crate::proofs::Opening::fill_long))]
 pub fn fill_size(pcm: usize) -> usize
     ensures { (result ≡ length (fill_part pcm)) × (result ≤ 16) }
 {
@@ -57,6 +48,7 @@ pub fn fill_size(pcm: usize) -> usize
 }
 
 // How many bytes the COPY takes.
+#[tactic(auto, using(crate::proofs::Opening::no_copy, crate::proofs::Opening::copy_long))]
 pub fn copy_size(pcm: usize) -> usize
     ensures { (result ≡ length (copy_part pcm)) × (result ≤ 16) }
 {
@@ -67,6 +59,7 @@ pub fn copy_size(pcm: usize) -> usize
 }
 
 // The FILL of the rest of the PCM memory, if PCM was written and less than all of it.
+#[tactic(auto, using(bytes_read::proofs::Sequence::put_none, bytes_put_operation::proofs::Operations::item_two, crate::proofs::Opening::no_fill, crate::proofs::Opening::full_fill, crate::proofs::Opening::some_fill, crate::proofs::Opening::fill_long))]
 fn put_pcm_fill(buffer: &mut [u8], at: usize, pcm: usize)
     requires { at + length (fill_part pcm) ≤ length buffer.old }
     ensures { buffer.new ≡ put (fill_part pcm) at buffer.old }
@@ -89,6 +82,7 @@ fn put_pcm_fill(buffer: &mut [u8], at: usize, pcm: usize)
 }
 
 // The COPY of all PCM bytes, if PCM was written.
+#[tactic(auto, using(bytes_read::proofs::Sequence::put_none, bytes_put_operation::proofs::Operations::item_two, crate::proofs::Opening::no_copy, crate::proofs::Opening::some_copy, crate::proofs::Opening::copy_long))]
 fn put_pcm_copy(buffer: &mut [u8], at: usize, pcm: usize)
     requires { (at + length (copy_part pcm) ≤ length buffer.old) × (pcm < 4294967296) }
     ensures { buffer.new ≡ put (copy_part pcm) at buffer.old }
@@ -105,17 +99,13 @@ fn put_cores(file: &[u8], count: usize, buffer: &mut [u8], at: usize) -> usize
     ensures { (buffer.new ≡ put (core_bytes file.now count 20) at buffer.old) × (result ≡ at + length (core_bytes file.now count 20)) }
 {
     let write = operation_size(WIDTH, 0);
-    let mut from = MASTER_HEADER_SIZE;
-    let mut left = count;
     let mut place = at;
-    while 0 < left {
-        let target = file[from];
-        if target != 2 {
+    for i in 0..count {
+        let from = MASTER_HEADER_SIZE + i * RECORD_SIZE;
+        if file[from] != 2 {
             put_record(file, from, buffer, place);
             place += write;
         }
-        from += RECORD_SIZE;
-        left -= 1;
     }
     place
 }

@@ -1,13 +1,8 @@
--- The loop's invariant: the bytes still to write, behind those that stand, are the whole.
-use Prim.Native.Nat.{◌+◌, ◌-◌, ◌*◌, ◌≤◌, ◌<◌}
-use mathlib.Core.Path.{◌≡◌, ◌∙◌}
-use lib.ListN.{length}
+-- What the loop keeps: the bytes still to write, behind those that stand, are the whole.
+use Rattle.std.proofs.Common.{◌+◌, ◌*◌, ◌-◌}
 use Rattle.base_master.specs.Result.{core_bytes}
 use Rattle.bytes_put_fields.proofs.Writing.{Writing}
 use Rattle.repack_put_opening.proofs.put_cores.Given as goal
 
-abbrev pub invariant-loop-left : goal.invariant-loop-left
-invariant-loop-left l = (l.from + l.left * 5 ≤ length l.file) × Writing (core_bytes l.file l.count 20) l.at l.initial.buffer (core_bytes l.file l.left l.from) l.place l.buffer
-
-abbrev pub decreases-loop-left : goal.decreases-loop-left
-decreases-loop-left l = l.left
+abbrev pub invariant-loop-i : goal.invariant-loop-i
+invariant-loop-i l = Writing (core_bytes l.file l.count 20) l.at l.initial.buffer (core_bytes l.file (l.count - l.i) (20 + l.i * 5)) l.place l.buffer

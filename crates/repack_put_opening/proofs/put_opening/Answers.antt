@@ -3,14 +3,12 @@ use Prim.Native.Nat.{ℕ, ◌+◌}
 use mathlib.Core.Path.{◌≡◌, refl, sym, ap, ◌∙◌}
 use mathlib.Core.List.{List, [], ◌++◌, append-nil}
 use native.Mathlib.Omega.{arith}
-use borrow.Author.Rules.{rules}
 use lib.ListN.{length, length-append}
 use Rattle.base_master.specs.Result.{core_bytes}
 use Rattle.repack_put_opening.specs.Opening.{fill_part, copy_part, opening_part}
 use Rattle.repack_put_opening.proofs.Opening.{opening_is}
 use Rattle.bytes_put_fields.proofs.Writing.{starts, wrote, ends}
-use Rattle.repack_put_opening.proofs.put_opening.Statement.{statement}
-use Rattle.repack_put_opening.proofs.put_opening.Tie as tie
+use Rattle.repack_put_opening.proofs.put_opening.Goals as goal
 
 size : (file : List ℕ) (count pcm : ℕ) → length (opening_part file count pcm) ≡ length (fill_part pcm) + (length (core_bytes file count 20) + length (copy_part pcm))
 size file count pcm =
@@ -18,27 +16,27 @@ size file count pcm =
     ∙ length-append (fill_part pcm) (core_bytes file count 20 ++ copy_part pcm)
     ∙ ap (λ (n : ℕ). length (fill_part pcm) + n) (length-append (core_bytes file count 20) (copy_part pcm))
 
-add_cores : tie.Need-overflow_add-cores
-add_cores c =
+pub overflow_add-cores : goal.overflow_add-cores
+overflow_add-cores c =
     let a = c.args in
     omega (arith, c.requires.1, size a.file.now a.count a.pcm, c.fill_size.ensures.0)
 
-put_pcm_fill_requires : tie.Need-put_pcm_fill-requires
-put_pcm_fill_requires c κs =
+pub put_pcm_fill-requires : goal.put_pcm_fill-requires
+put_pcm_fill-requires c =
     let a = c.args in
     omega (arith, c.requires.1, size a.file.now a.count a.pcm)
 
-put_cores_requires : tie.Need-put_cores-copy-requires
-put_cores_requires c κs =
+pub put_cores-copy-requires : goal.put_cores-copy-requires
+put_cores-copy-requires c =
     let a = c.args in
     (c.requires.0, omega (arith, c.requires.1, size a.file.now a.count a.pcm, c.fill_size.ensures.0))
 
-put_pcm_copy_requires : tie.Need-put_pcm_copy-requires
-put_pcm_copy_requires c κs =
+pub put_pcm_copy-requires : goal.put_pcm_copy-requires
+put_pcm_copy-requires c =
     let a = c.args in
     (omega (arith, c.requires.1, size a.file.now a.count a.pcm, c.fill_size.ensures.0, c.put_cores-copy.ensures.1), c.requires.2)
 
-returns : tie.Need-returns
+pub returns : goal.returns
 returns c =
     let a = c.args in
     let cores = core_bytes a.file.now a.count 20 in
@@ -48,6 +46,3 @@ returns c =
     let w'' = wrote w' cores copy (length cores) refl refl c.put_cores-copy.ensures.1 c.put_cores-copy.ensures.0 in
     let done = wrote w'' copy [] (length copy) (sym (append-nil copy)) refl refl c.put_pcm_copy.ensures in
     (ends done refl).0
-
-pub put_opening_spec : {M : Type 1} → statement M
-put_opening_spec = tie.close (tie.spec (search rules) add_cores put_pcm_fill_requires put_cores_requires put_pcm_copy_requires (search rules) returns)
