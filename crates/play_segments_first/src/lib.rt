@@ -1,15 +1,13 @@
 // Where the records of a call begin.
 #![tactic(auto)]
 
-ghost use Rattle.std.specs.Prelude.{◌≡◌, ◌-◌, ◌<◌};
-ghost use Rattle.base_format.specs.Writes.{closing_count};
+ghost use Rattle.std.specs.Prelude.{◌≡◌, ◌<◌};
 ghost use Rattle.base_format.specs.State.{part_of};
 ghost use Rattle.play_segments_first.specs.First.{nowhere, closing_from, frame_place, frame_at, opening_place, between_place, part_place, first_place};
 
-use base_format::{COUNT_SIZE, Header, Part, StreamPlayer};
+use base_format::{COUNT_SIZE, Header, NextPart, Part, StreamPlayer};
 use base_next_part::{closing_count, next_part, operations_left};
 use base_position::opening_from;
-use base_state::part_of;
 use bytes_read::{passes, read_u16};
 use play_segments::Place;
 
@@ -24,20 +22,9 @@ fn nowhere(total: usize) -> Place
         after: 0,
         cursor: 0,
         done: 0,
-        total: total,
+        total,
         room: total,
     }
-}
-
-// How many closing writes are left behind so many.
-fn closing_left(uses_si22: bool, done: u32) -> usize
-    ensures { result ≡ closing_count uses_si22 - done }
-{
-    let count = closing_count(uses_si22);
-    if count < done {
-        return 0;
-    }
-    (count - done) as usize
 }
 
 // The closing writes behind so many.
@@ -46,13 +33,8 @@ fn closing_from(state: StreamPlayer, done: u32, total: usize) -> Place
 {
     Place {
         closing: true,
-        left: closing_left(state.uses_si22, done),
-        opening: 0,
-        after: 0,
-        cursor: 0,
-        done: 0,
-        total: total,
-        room: total,
+        left: closing_count(state.uses_si22).saturating_sub(done) as usize,
+        ..nowhere(total)
     }
 }
 
@@ -61,33 +43,28 @@ fn frame_place(left: usize, cursor: usize, done: u32, total: usize) -> Place
     ensures { result ≡ frame_place left cursor done total }
 {
     Place {
-        closing: false,
-        left: left,
-        opening: 0,
+        left,
         after: cursor,
-        cursor: cursor,
-        done: done,
-        total: total,
-        room: total,
+        cursor,
+        done,
+        ..nowhere(total)
     }
 }
 
 // The frame whose count stands at a cursor; none if it passes the file's end.
+#[tactic(auto, unfolding(crate::specs::First::frame_at))]
 fn frame_at(file: &[u8], cursor: usize, total: usize) -> Place
     ensures { (result ≡ frame_at file.now cursor total) × (result.left < 65536) }
 {
     if passes(file.len(), cursor, COUNT_SIZE) {
         return nowhere(total);
     }
-    frame_place(
-        read_u16(file, cursor) as usize,
-        cursor + COUNT_SIZE,
-        0,
-        total,
-    )
+    let count = read_u16(file, cursor);
+    frame_place(count as usize, cursor + COUNT_SIZE, 0, total)
 }
 
 // So many operations of the opening from a cursor on, and then the first frame.
+#[tactic(auto, unfolding(crate::specs::First::opening_place))]
 fn opening_place(
     file: &[u8],
     header: Header,
@@ -103,51 +80,47 @@ fn opening_place(
         return frame;
     }
     Place {
-        closing: false,
         left: left as usize + frame.left,
         opening: left as usize,
         after: frame.cursor,
-        cursor: cursor,
-        done: done,
-        total: total,
-        room: total,
+        cursor,
+        done,
+        ..nowhere(total)
     }
 }
 
 // Between vsyncs the next one begins.
+#[tactic(auto, unfolding(crate::specs::First::between_place))]
 fn between_place(file: &[u8], state: StreamPlayer, total: usize) -> Place
     ensures { result ≡ between_place file.now state total }
 {
-    let header = state.header;
-    let progress = state.progress;
-    let next = next_part(header, progress);
-    if next.part == Part::OPENING {
-        let at = opening_from(header);
-        return opening_place(file, header, at.operation_count, at.cursor, 0, total);
+    match next_part(state.header, state.progress) {
+        NextPart::Opening => {
+            let at = opening_from(state.header);
+            opening_place(file, state.header, at.operation_count, at.cursor, 0, total)
+        }
+        NextPart::Frame { place, frame: _ } => frame_at(file, place, total),
+        NextPart::Closing => closing_from(state, 0, total),
     }
-    if next.part == Part::FRAME {
-        return frame_at(file, next.place, total);
-    }
-    closing_from(state, 0, total)
 }
 
 // The part that is under way goes on.
 fn part_place(file: &[u8], state: StreamPlayer, total: usize) -> Place
     ensures { result ≡ part_place file.now state total (part_of state.progress.part) }
 {
-    let header = state.header;
     let progress = state.progress;
     let left = operations_left(progress.operation_index, progress.operation_count);
     let done = progress.write_index;
-    match part_of(progress.part) {
+    match Part::from(progress.part) {
         Part::Between => between_place(file, state, total),
-        Part::Opening => opening_place(file, header, left, progress.cursor, done, total),
+        Part::Opening => opening_place(file, state.header, left, progress.cursor, done, total),
         Part::Frame => frame_place(left as usize, progress.cursor, done, total),
         Part::Closing => closing_from(state, done, total),
     }
 }
 
 // The place before the first record of a call that takes so many and has a run of `total`.
+#[tactic(auto, unfolding(crate::specs::First::first_place))]
 pub fn first_place(file: &[u8], state: StreamPlayer, count: usize, total: usize) -> Place
     ensures { result ≡ first_place file.now state count total }
 {
