@@ -8,22 +8,24 @@ use native.Mathlib.Omega.{arith}
 use borrow.Author.Tests.{ne_eqb, ltb-false}
 use lib.Dec.{eqb, ltb}
 use lib.ListN.{length, drop}
-use Rattle.base_format.specs.Next.{next_part}
-use Rattle.base_format.specs.State.{part_number, part_of}
+use Rattle.base_format.specs.Next.{next_part, by_next}
+use Rattle.base_format.specs.State.{part_of}
 use Rattle.base_format.specs.declared.operation.WriteRecord.{WriteRecord}
+use Rattle.base_format.specs.declared.player.NextPart.{NextPart}
+use Rattle.base_format.specs.declared.player.NextPart.TheVariants as Next
 use Rattle.base_format.specs.declared.player.Part.{Part}
 use Rattle.base_format.specs.declared.player.Part.TheVariants.{Between, Opening, Frame, Closing}
 use Rattle.base_format.specs.declared.player.Progress.{Progress}
 use Rattle.base_format.specs.declared.player.StreamPlayer.{StreamPlayer}
 use Rattle.base_format.specs.Checked.{Checked, ok, ◌>>=◌, ◌>>◌}
 use Rattle.base_format.specs.Lent.{stored}
-use Rattle.base_format.specs.Player.{Played, opening_begun, frame_begun, closing_at, play_frame, play_opening, play, belongs, as25, call, run_after}
+use Rattle.base_format.specs.Player.{Played, opening_begun, frame_begun, closing_at, play_frame, play_opening, play_closing, play, belongs, as25, call, run_after}
 use Rattle.base_format.specs.Stream.{opening_limit}
 use Rattle.base_format.proofs.Accepted.{opening_limit_lem}
 use Rattle.base_format.proofs.Checks.{through, passed_test, passed_check, ok_is, or_false}
 use Rattle.play_laws.proofs.Planned.{checked_25, records_fit}
 use Rattle.play_segments.specs.declared.place.Place.{Place}
-use Rattle.play_segments_first.specs.First.{nowhere, frame_at, opening_place, between_place, part_place, first_place}
+use Rattle.play_segments_first.specs.First.{nowhere, closing_from, frame_at, opening_place, between_place, part_place, first_place}
 use Rattle.play_store_segment.specs.Segment.{inserted}
 use Rattle.play_store.specs.Stored.{stored_from, stored_call}
 use Rattle.play_store.proofs.Storing.{stored_none}
@@ -51,10 +53,6 @@ module _ (file : List ℕ) (state : StreamPlayer) (short : opening_limit state.h
   abbrev Gives : Checked Played → Place → Type 0
   Gives answer place = (a : Played) → answer ≡ ok a → stored_from file state place run ≡ inserted (total - total) a.records run
 
-  gives_either : (b : Bool) (x y : Checked Played) (p q : Place) → Gives x p → Gives y q → Gives (cond b x y) (cond b p q)
-  gives_either true x y p q h h' = h
-  gives_either false x y p q h h' = h'
-
   gives_frame : (cursor index : ℕ) (p : Progress) → Gives (frame_begun file cursor index p >>= play_frame state file total) (frame_at file cursor total)
   gives_frame cursor index p a e =
       let begun = through (frame_begun file cursor index p) _ e in
@@ -70,11 +68,14 @@ module _ (file : List ℕ) (state : StreamPlayer) (short : opening_limit state.h
   gives_part Opening a e = opening_stored file state total short state.progress a run e some refl
   gives_part Frame a e = under_way_lem file state total state.progress a e run some refl
   gives_part Closing a e = closing_stored file state total state.progress a run e some refl
-  gives_part Between a e =
-      let next = next_part state.header state.progress in
-      gives_either (eqb next.part (part_number Opening)) _ _ _ _ (gives_opening state.progress)
-      (gives_either (eqb next.part (part_number Frame)) _ _ _ _ (gives_frame next.place next.frame state.progress)
-      (λ a e. closing_stored file state total (closing_at 0 false state.progress) a run e some refl)) a e
+  gives_part Between a e = go (next_part state.header state.progress) a e
+    where
+      go : (next : NextPart)
+          → Gives (by_next next (play_opening state file total (opening_begun state.header state.progress)) (λ (place frame : ℕ). frame_begun file place frame state.progress >>= play_frame state file total) (play_closing state total (closing_at 0 false state.progress)))
+          (by_next next (opening_place file state.header state.header.initial_count state.header.initial_start 0 total) (λ (place frame : ℕ). frame_at file place total) (closing_from state 0 total))
+      go Next.Opening a e = gives_opening state.progress a e
+      go (Next.Frame place frame) a e = gives_frame place frame state.progress a e
+      go Next.Closing a e = closing_stored file state total (closing_at 0 false state.progress) a run e some refl
 
 -- a call that takes none leaves the run as it is
 pub stored_nothing : (file : List ℕ) (state : StreamPlayer) (run : List WriteRecord) → stored_call file state 0 run ≡ run

@@ -8,12 +8,13 @@ use native.Mathlib.Omega.{arith}
 use borrow.Author.Tests.{ne_eqb, eqb-false}
 use lib.Dec.{eqb, ltb}
 use lib.ListN.{length, take}
+use Rattle.base_format.specs.declared.operation.Item.{Item}
 use Rattle.base_format.specs.declared.operation.WriteRecord.{WriteRecord}
 use Rattle.base_format.specs.declared.player.Progress.{Progress}
 use Rattle.base_format.specs.declared.player.StreamPlayer.{StreamPlayer}
 use Rattle.base_format.specs.Bytes.{be}
 use Rattle.base_format.specs.Checked.{ok, ◌>>=◌}
-use Rattle.base_format.specs.Operation.{Item, item_at}
+use Rattle.base_format.specs.Operation.{item_at}
 use Rattle.base_format.specs.Player.{setting_in, Gathered, gathered, Played, frame_start, frame_begun, operations_left, play_frame, play_opening}
 use Rattle.base_format.specs.State.{moved}
 use Rattle.base_format.specs.Stream.{opening_limit}

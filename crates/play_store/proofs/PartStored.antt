@@ -8,11 +8,11 @@ use borrow.Author.Tests.{ltb-true, ltb-false, leb-true, leb-false}
 use lib.Dec.{leb, ltb}
 use lib.ListN.{length, take, length-drop}
 use lib.Seq.{take_all}
+use Rattle.base_format.specs.declared.operation.Item.{Item}
 use Rattle.base_format.specs.declared.operation.WriteRecord.{WriteRecord}
 use Rattle.base_format.specs.declared.player.Progress.{Progress}
 use Rattle.base_format.specs.declared.player.StreamPlayer.{StreamPlayer}
 use Rattle.base_format.specs.Checked.{ok, ◌>>=◌}
-use Rattle.base_format.specs.Operation.{Item}
 use Rattle.play_laws.specs.Plan.{count_of, address_of}
 use Rattle.base_format.specs.Player.{item_used, bytes_at, Gathered, gathered}
 use Rattle.base_format.specs.Writes.{writes_with}

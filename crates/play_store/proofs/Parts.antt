@@ -8,13 +8,14 @@ use borrow.Author.Tests.{ltb-false, le-ltb, le-leb, lt-leb}
 use lib.Dec.{eqb, ltb}
 use lib.ListN.{length, take, drop, length-append, length-take}
 use lib.Seq.{take_at, drop-drop, drop-append-add}
+use Rattle.base_format.specs.declared.operation.Item.{Item}
 use Rattle.base_format.specs.declared.operation.Operation.{Operation}
 use Rattle.base_format.specs.declared.operation.WriteRecord.{WriteRecord}
 use Rattle.base_format.specs.declared.player.Progress.{Progress}
 use Rattle.base_format.specs.declared.player.StreamPlayer.{StreamPlayer}
 use Rattle.base_format.specs.declared.player.WaveSource.{WaveSource}
 use Rattle.base_format.specs.Checked.{ok, ◌>>=◌}
-use Rattle.base_format.specs.Operation.{Item, item_at}
+use Rattle.base_format.specs.Operation.{item_at}
 use Rattle.play_laws.specs.Plan.{count_of, address_of}
 use Rattle.base_format.specs.Player.{setting_in, item_used, bytes_at, waves_by, placed, Gathered, gathered}
 use Rattle.base_format.specs.Writes.{writes_with}

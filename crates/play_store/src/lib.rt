@@ -9,7 +9,8 @@ use play_segments::next_segment;
 use play_segments_first::first_place;
 use play_store_segment::store_segment;
 
-// The records of a call that takes `count` of them, in front of the run; no later record is touched.
+// The records of a call that takes `count` of them, in front of the run; no later record is touched. A turn that fills the room leaves
+// nothing, so no range counts the turns.
 pub fn store_call(run: &mut [WriteRecord], file: &[u8], state: StreamPlayer, count: usize)
     ensures { run.new ≡ stored_call file.now state count run.old }
 {

@@ -1,9 +1,7 @@
 -- `play_store::store_call` meets its contract: each turn stores a segment, and what is still to be stored behind it is what was to be
 -- stored before.
-use Rattle.std.proofs.Common.{arith, sym, ◌∙◌, ap, refl, ◌≡◌, ◌<◌, length}
-use Rattle.play_segments_first.specs.First.{first_place}
+use Rattle.std.proofs.Common.{arith, sym, ◌∙◌}
 use Rattle.play_segments.proofs.Fewer.{turn_less}
-use Rattle.play_store.specs.Stored.{stored_from, stored_call}
 use Rattle.play_store.proofs.Storing.{stored_none, stored_step, call_is}
 use Rattle.play_store.proofs.store_call.Goals as goal
 

@@ -1,6 +1,5 @@
 -- The loop's invariant: what is still to be stored from the place on makes the whole call. Each turn leaves less than there was.
-use Rattle.std.proofs.Common.{◌≡◌, length}
-use Rattle.play_segments_first.specs.First.{first_place}
+use Rattle.std.proofs.Common.{◌≡◌}
 use Rattle.play_store.specs.Stored.{stored_from, stored_call}
 use Rattle.play_store.proofs.store_call.Given as goal
 
