@@ -2,9 +2,10 @@
 use Prim.Native.Nat.{ℕ}
 use mathlib.Core.List.{List}
 use mathlib.Core.Path.{◌≡◌, refl}
+use Rattle.base_format.specs.declared.operation.Item.{Item}
 use Rattle.base_format.specs.declared.player.StreamPlayer.{StreamPlayer}
 use Rattle.base_format.specs.Checked.{Checked, ok, refused, ◌>>=◌, ◌>>◌}
-use Rattle.base_format.specs.Operation.{Item, item_at}
+use Rattle.base_format.specs.Operation.{item_at}
 use Rattle.base_format.specs.Player.{setting_in, card_used, pools_used, item_used, as25}
 use Rattle.base_format.specs.Writes.{target_number}
 use Rattle.play_plan_item.specs.Used.{item_used_by}

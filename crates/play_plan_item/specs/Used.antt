@@ -3,9 +3,10 @@ use Rattle.std.specs.Prelude.{ℕ, Bool, ◌&&◌, List, eqb, leb}
 use Rattle.base_format.specs.declared.card.CardRequirement.{CardRequirement}
 use Rattle.base_format.specs.declared.card.CardTable.{CardTable}
 use Rattle.base_format.specs.declared.header.Header.{Header}
+use Rattle.base_format.specs.declared.operation.Item.{Item}
 use Rattle.base_format.specs.declared.operation.Operation.{Operation}
 use Rattle.base_format.specs.Checked.{Checked, ok, refused, ◌>>=◌, ◌>>◌}
-use Rattle.base_format.specs.Operation.{Item, setting_of, item_at}
+use Rattle.base_format.specs.Operation.{setting_of, item_at}
 use Rattle.base_format.specs.Player.{slot_wrong, card_used, pools_used, as25}
 use Rattle.base_format.specs.Target.{slot_of}
 use Rattle.base_format.specs.Writes.{target_number}

@@ -4,10 +4,10 @@ use mathlib.Core.Bool.{Bool, true, false, cond}
 use mathlib.Core.List.{List}
 use mathlib.Core.Path.{◌≡◌, refl}
 use lib.Dec.{ltb}
+use Rattle.base_format.specs.declared.operation.Item.{Item}
 use Rattle.base_format.specs.declared.player.Progress.{Progress}
 use Rattle.base_format.specs.declared.player.StreamPlayer.{StreamPlayer}
 use Rattle.base_format.specs.Checked.{Checked, ok, refused, refuse, ◌>>=◌, ◌>>◌}
-use Rattle.base_format.specs.Operation.{Item}
 use Rattle.play_laws.specs.Plan.{count_of, planned_operations}
 use Rattle.base_format.specs.Player.{item_used, placed, as25}
 use Rattle.play_laws.proofs.PlannedOperations.{planned_operations_step}

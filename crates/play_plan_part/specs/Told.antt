@@ -1,11 +1,11 @@
 -- What the answers of this crate say.
 use Rattle.std.specs.Prelude.{ℕ, ◌+◌, ◌*◌, ◌-◌, ◌/◌, true, cond, List, eqb, ltb, set}
+use Rattle.base_format.specs.declared.operation.Item.{Item}
 use Rattle.base_format.specs.declared.operation.Operation.{Operation}
 use Rattle.base_format.specs.declared.player.Progress.{Progress}
 use Rattle.base_format.specs.declared.player.StreamPlayer.{StreamPlayer}
 use Rattle.base_format.specs.declared.player.WaveSource.{WaveSource}
 use Rattle.base_format.specs.Checked.{Checked, ok, refused, refuse, ◌>>=◌, ◌>>◌}
-use Rattle.base_format.specs.Operation.{Item}
 use Rattle.play_laws.specs.Plan.{count_of}
 use Rattle.base_format.specs.Player.{waves_by}
 use Rattle.play_plan_item.specs.Used.{item_used_by}

@@ -9,13 +9,14 @@ use borrow.Author.Tests.{ltb-true, ltb-false, le-ltb, le-leb, lt-leb}
 use lib.Dec.{eqb, leb, ltb, eqb-suc-zero}
 use lib.ListN.{length, take, drop, length-append, length-drop}
 use lib.Seq.{take-nil, drop-nil, take-append-le, drop-append-le, take-append-add, drop-append-add, drop-drop}
+use Rattle.base_format.specs.declared.operation.Item.{Item}
 use Rattle.base_format.specs.declared.operation.Operation.{Operation}
 use Rattle.base_format.specs.declared.player.Progress.{Progress}
 use Rattle.base_format.specs.declared.player.WaveSource.{WaveSource}
 use Rattle.base_format.specs.declared.operation.WriteRecord.{WriteRecord}
 use Rattle.base_format.specs.Checked.{Checked, ok, ◌>>=◌}
 use Rattle.base_format.specs.Header.{header_of}
-use Rattle.base_format.specs.Operation.{Setting, Item, item_at}
+use Rattle.base_format.specs.Operation.{Setting, item_at}
 use Rattle.base_format.specs.State.{player_of}
 use Rattle.base_format.specs.Player.{placed, Gathered, gathered}
 use Rattle.base_format.specs.Stream.{Stream, operations_from}
