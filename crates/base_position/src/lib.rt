@@ -15,7 +15,7 @@ pub fn between_at(cursor: usize, frame: u32) -> Position
 {
     Position {
         part: Part::BETWEEN,
-        cursor: cursor,
+        cursor,
         operation_index: 0,
         operation_count: 0,
         write_index: 0,
@@ -43,7 +43,7 @@ pub fn frame_from(cursor: usize, operations: u32, frame: u32) -> Position
 {
     Position {
         part: Part::FRAME,
-        cursor: cursor,
+        cursor,
         operation_index: 0,
         operation_count: operations,
         write_index: 0,
@@ -57,7 +57,7 @@ pub fn closing_behind(cursor: usize, writes: u32, frame: u32) -> Position
 {
     Position {
         part: Part::CLOSING,
-        cursor: cursor,
+        cursor,
         operation_index: 0,
         operation_count: 0,
         write_index: writes,
@@ -70,12 +70,10 @@ pub fn onward_to(at: Position, cursor: usize, operations: u32, writes: u32) -> P
     ensures { result ≡ onward_to at cursor operations writes }
 {
     Position {
-        part: at.part,
-        cursor: cursor,
+        cursor,
         operation_index: operations,
-        operation_count: at.operation_count,
         write_index: writes,
-        frame_index: at.frame_index,
+        ..at
     }
 }
 

@@ -15,30 +15,29 @@ pub use progress::{
 pub fn no_card() -> CardRequirement
     ensures { result ≡ no_card }
 {
-    let id = [0; 16];
     CardRequirement {
         slot: 0,
         id_length: 0,
         id_offset: 0,
         bulk_start: 0,
         bulk_length: 0,
-        id: id,
+        id: [0; 16],
     }
 }
 
 // A table without cards.
+#[tactic(auto, unfolding(base_format::specs::State::table_of))]
 pub fn no_cards() -> CardTable
     ensures { result ≡ table_of [] }
 {
-    let none = no_card();
-    let cards = [none; 8];
     CardTable {
-        cards: cards,
+        cards: [no_card(); 8],
         count: 0,
     }
 }
 
 // What a refused start gives back.
+#[tactic(auto, unfolding(base_format::specs::State::refused_player))]
 pub fn refused_player() -> StreamPlayer
     ensures { result ≡ refused_player }
 {
@@ -55,13 +54,11 @@ pub fn refused_player() -> StreamPlayer
         frame_start: 0,
         total_size: 0,
     };
-    let cards = no_cards();
-    let progress = unplayed(true, 0);
     StreamPlayer {
-        header: header,
-        cards: cards,
+        header,
+        cards: no_cards(),
         uses_si22: false,
-        progress: progress,
+        progress: unplayed(true, 0),
     }
 }
 
@@ -69,12 +66,5 @@ pub fn refused_player() -> StreamPlayer
 pub fn moved(state: StreamPlayer, progress: Progress) -> StreamPlayer
     ensures { result ≡ moved state progress }
 {
-    let header = state.header;
-    let cards = state.cards;
-    StreamPlayer {
-        header: header,
-        cards: cards,
-        uses_si22: state.uses_si22,
-        progress: progress,
-    }
+    StreamPlayer { progress, ..state }
 }

@@ -17,13 +17,14 @@ fn progress_at(at: Position, initialized: bool, finished: bool, waves: [WaveSour
         operation_count: at.operation_count,
         write_index: at.write_index,
         frame_index: at.frame_index,
-        initialized: initialized,
-        finished: finished,
+        initialized,
+        finished,
         wave_sources: waves,
     }
 }
 
 // Before the first vsync; a refused start gives a finished one.
+#[tactic(auto, unfolding(base_format::specs::State::unplayed))]
 pub fn unplayed(finished: bool, cursor: usize) -> Progress
     ensures { result ≡ unplayed finished cursor }
 {
@@ -31,33 +32,29 @@ pub fn unplayed(finished: bool, cursor: usize) -> Progress
         copied: false,
         pool: 0,
     };
-    let waves = [wave; 16];
-    progress_at(between_at(cursor, 0), false, finished, waves)
+    progress_at(between_at(cursor, 0), false, finished, [wave; 16])
 }
 
 // The opening begins.
 pub fn opening_begun(header: Header, progress: Progress) -> Progress
     ensures { result ≡ opening_begun header progress }
 {
-    let waves = progress.wave_sources;
-    progress_at(opening_from(header), false, false, waves)
+    progress_at(opening_from(header), false, false, progress.wave_sources)
 }
 
 // A frame of so many operations begins, the first of them at the cursor; it is one of the frames of the pass that are then begun.
 pub fn frame_begun(cursor: usize, operations: u32, frame: u32, progress: Progress) -> Progress
     ensures { result ≡ progress_at (frame_from cursor operations frame) true false progress.wave_sources }
 {
-    let waves = progress.wave_sources;
-    progress_at(frame_from(cursor, operations, frame), true, false, waves)
+    progress_at(frame_from(cursor, operations, frame), true, false, progress.wave_sources)
 }
 
 // The frame is over, and with it the vsync.
 pub fn frame_ended(progress: Progress) -> Progress
     ensures { result ≡ frame_ended progress }
 {
-    let waves = progress.wave_sources;
     let at = between_at(progress.cursor, progress.frame_index);
-    progress_at(at, true, false, waves)
+    progress_at(at, true, false, progress.wave_sources)
 }
 
 // Before a frame whose count stands at the cursor, with so many frames of the pass begun: a jump sets a player so. The wave sources stay,
@@ -65,8 +62,7 @@ pub fn frame_ended(progress: Progress) -> Progress
 pub fn before_frame(progress: Progress, cursor: usize, frame: u32) -> Progress
     ensures { result ≡ progress_at (between_at cursor frame) true false progress.wave_sources }
 {
-    let waves = progress.wave_sources;
-    progress_at(between_at(cursor, frame), true, false, waves)
+    progress_at(between_at(cursor, frame), true, false, progress.wave_sources)
 }
 
 // The progress at a cursor, with so many operations done, and so many writes of the operation there.
@@ -87,7 +83,6 @@ pub fn placed(
 pub fn closing_at(progress: Progress, writes: u32, finished: bool) -> Progress
     ensures { result ≡ closing_at writes finished progress }
 {
-    let waves = progress.wave_sources;
     let at = closing_behind(progress.cursor, writes, progress.frame_index);
-    progress_at(at, true, finished, waves)
+    progress_at(at, true, finished, progress.wave_sources)
 }

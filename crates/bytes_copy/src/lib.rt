@@ -5,26 +5,10 @@ ghost use Rattle.std.specs.Prelude.{◌≡◌, ◌+◌, ◌≤◌, length};
 ghost use Rattle.base_format.specs.Bytes.{part};
 ghost use Rattle.bytes_read.specs.Put.{put};
 
-// All bytes of one slice into another of the same length. The test lets the compiler see that they are equally long, so that the loop
-// becomes one copy.
-fn copy_all(from: &[u8], to: &mut [u8])
-    requires { length from.now ≡ length to.old }
-    ensures { to.new ≡ from.now }
-{
-    if from.len() != to.len() {
-        return;
-    }
-    let mut i = 0;
-    while i < from.len() {
-        to[i] = from[i];
-        i += 1;
-    }
-}
-
 // So many bytes of a file from a place, to a place of a buffer.
 pub fn copy_part(file: &[u8], from: usize, size: usize, buffer: &mut [u8], at: usize)
     requires { (from + size ≤ length file.now) × (at + size ≤ length buffer.old) }
     ensures { buffer.new ≡ put (part file.now from size) at buffer.old }
 {
-    copy_all(&file[from..from + size], &mut buffer[at..at + size]);
+    buffer[at..at + size].copy_from_slice(&file[from..from + size]);
 }
