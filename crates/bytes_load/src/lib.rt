@@ -1,35 +1,15 @@
-// Numbers in two to four bytes of a file that are all there, highest byte first.
+// Numbers in up to four bytes of a file that are all there, highest byte first.
 #![tactic(auto)]
 
 ghost use Rattle.std.specs.Prelude.{◌≡◌, ◌+◌, ◌^◌, ◌≤◌, ◌<◌, length};
 ghost use Rattle.base_format.specs.Bytes.{be};
 
-// A byte as a number that sums of bytes are made of.
-pub fn wide(x: u8) -> u32
-    ensures { (result ≡ x) × (result < 256) }
+// The number in as many bytes as the width says. Each width of 2 or 4 compiles to one load.
+pub fn load<const WIDTH: usize>(file: &[u8], at: usize) -> u32
+    requires { (WIDTH ≤ 4) × (at + WIDTH ≤ length file.now) }
+    ensures { (result ≡ be WIDTH file.now at) × (result < 256 ^ WIDTH) }
 {
-    x as u32
-}
-
-// The numbers in two, three and four bytes that are all there. Each is the one before with one byte more; together they compile to
-// one load.
-pub fn load_2(file: &[u8], at: usize) -> u32
-    requires { at + 2 ≤ length file.now }
-    ensures { (result ≡ be 2 file.now at) × (result < 256 ^ 2) }
-{
-    wide(file[at]) * 256 + wide(file[at + 1])
-}
-
-pub fn load_3(file: &[u8], at: usize) -> u32
-    requires { at + 3 ≤ length file.now }
-    ensures { (result ≡ be 3 file.now at) × (result < 256 ^ 3) }
-{
-    load_2(file, at) * 256 + wide(file[at + 2])
-}
-
-pub fn load_4(file: &[u8], at: usize) -> u32
-    requires { at + 4 ≤ length file.now }
-    ensures { result ≡ be 4 file.now at }
-{
-    load_3(file, at) * 256 + wide(file[at + 3])
+    let mut bytes = [0; 4];
+    bytes[4 - WIDTH..].copy_from_slice(&file[at..at + WIDTH]);
+    u32::from_be_bytes(bytes)
 }

@@ -5,22 +5,15 @@
 ghost use Rattle.std.specs.Prelude.{◌≡◌, ◌+◌, ◌*◌, ◌^◌, ◌≤◌, ◌<◌, min, ltb, length};
 ghost use Rattle.base_format.specs.Bytes.{byte, be, part};
 
-use bytes_load::{load_2, load_3, load_4, wide};
+use bytes_load::load;
 pub use bytes_put::{put_low_u16, put_u8, put_u16, put_u24, put_u32};
 
 // The byte at a place.
+#[tactic(auto, using(base_format::proofs::Bytes::byte_past))]
 pub fn byte_at(file: &[u8], place: usize) -> u8
     ensures { result ≡ byte file.now place }
 {
-    if place < file.len() { file[place] } else { 0 }
-}
-
-// A number with one byte more at its end.
-fn joined(high: u32, low: u8) -> u32
-    requires { high < 0x1000000 }
-    ensures { result ≡ high * 256 + low }
-{
-    high * 256 + wide(low)
+    file.get(place).copied().unwrap_or(0)
 }
 
 // The number in `width` bytes from `at`. The reads of a fixed width come here only near the file's end.
@@ -30,48 +23,45 @@ fn read_be(file: &[u8], at: usize, width: usize) -> u32
 {
     let mut value = 0;
     for i in 0..width {
-        value = joined(value, byte_at(file, at + i));
+        value = value * 256 + byte_at(file, at + i) as u32;
     }
     value
+}
+
+// The number in as many bytes as the width says.
+#[tactic(auto, using(base_format::proofs::Bytes::be_past))]
+fn read<const WIDTH: usize>(file: &[u8], at: usize) -> u32
+    requires { WIDTH ≤ 4 }
+    ensures { result ≡ be WIDTH file.now at }
+{
+    if file.len() < at {
+        return 0;
+    }
+    if file.len() - at < WIDTH {
+        return read_be(file, at, WIDTH);
+    }
+    load::<WIDTH>(file, at)
 }
 
 // The number in two bytes.
 pub fn read_u16(file: &[u8], at: usize) -> u16
     ensures { result ≡ be 2 file.now at }
 {
-    if file.len() < at {
-        return 0;
-    }
-    if file.len() - at < 2 {
-        return read_be(file, at, 2) as u16;
-    }
-    load_2(file, at) as u16
+    read::<2>(file, at) as u16
 }
 
 // The number in three bytes.
 pub fn read_u24(file: &[u8], at: usize) -> u32
     ensures { result ≡ be 3 file.now at }
 {
-    if file.len() < at {
-        return 0;
-    }
-    if file.len() - at < 3 {
-        return read_be(file, at, 3);
-    }
-    load_3(file, at)
+    read::<3>(file, at)
 }
 
 // The number in four bytes.
 pub fn read_u32(file: &[u8], at: usize) -> u32
     ensures { result ≡ be 4 file.now at }
 {
-    if file.len() < at {
-        return 0;
-    }
-    if file.len() - at < 4 {
-        return read_be(file, at, 4);
-    }
-    load_4(file, at)
+    read::<4>(file, at)
 }
 
 // The 16 bytes from a place on, which are all there. A read in them needs no test of the file's end once it is compiled.
@@ -99,21 +89,12 @@ pub fn item_bytes(file: &[u8], at: usize) -> &[u8]
 pub fn smaller(a: usize, b: usize) -> usize
     ensures { (result ≡ min a b) × (result ≤ a) × (result ≤ b) }
 {
-    if a < b {
-        return a;
-    }
-    b
+    a.min(b)
 }
 
 // Whether so many bytes, or elements, from a place on pass a size.
 pub fn passes(size: usize, at: usize, count: usize) -> bool
     ensures { result ≡ ltb size (at + count) }
 {
-    if size < at {
-        return true;
-    }
-    if size - at < count {
-        return true;
-    }
-    false
+    size < at || size - at < count
 }

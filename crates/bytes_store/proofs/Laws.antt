@@ -1,15 +1,16 @@
 -- Laws of numbers that are read from and written into bytes, over the width.
-use Prim.Native.Nat.{ℕ, suc, ◌+◌, ◌/◌, ◌%◌, ◌^◌, ◌≤◌, ◌<◌}
+use Prim.Native.Nat.{ℕ, suc, ◌+◌, ◌-◌, ◌/◌, ◌%◌, ◌^◌, ◌≤◌, ◌<◌}
 use mathlib.Core.Path.{◌≡◌, refl, sym, ◌∙◌}
 use mathlib.Core.Bool.{Bool, true, false, cond}
 use mathlib.Core.List.{List, [], ◌∷◌, ◌++◌, append_assoc}
 use native.Mathlib.Nat.{add-zero}
 use native.Mathlib.Numerals.{add-one}
 use native.Mathlib.Omega.{arith}
+use borrow.Rule.Slice.PartMut.{put_mid}
 use borrow.Author.Tests.{le-leb, lt-leb, leb-true}
 use lib.Dec.{leb}
 use lib.ListN.{length, take, drop, set, length-append}
-use lib.Seq.{paste-zero, paste-suc, take_all, take_at, get_or_at, length-take-le, drop_at, length-paste, drop-paste, take-length}
+use lib.Seq.{paste-zero, paste-suc, take_all, take_at, get_or_at, length-take-le, drop_at, length-paste, drop-paste, drop-drop, take-length}
 use Rattle.base_format.specs.Bytes.{be, bytes_of}
 use Rattle.base_format.proofs.Bytes.{length_bytes_of, be_here}
 use Rattle.bytes_store.specs.Put.{put}
@@ -44,6 +45,12 @@ put_next width n at buffer h =
     rw (add-one, number_fits width (n / 256) at buffer (omega arith), number_fits (suc width) n at buffer (omega arith))
     (rw (take_at high (n % 256 ∷ []) width size, get_or_at high (n % 256) [] 0 width size, take_all (suc width) whole all)
     at (paste-suc buffer at whole width 0 h (rw length-append (omega arith))))
+
+-- a part that is written whole
+pub put_part : (bytes : List ℕ) (at end : ℕ) (buffer : List ℕ) → at + length bytes ≡ end → end ≤ length buffer → put_mid at (end - at) buffer bytes ≡ put bytes at buffer
+put_part bytes at end buffer e h =
+    let k : end - at ≡ length bytes = omega arith in
+    rw (k, drop-drop (length bytes) at buffer) (sym (append_assoc (take at buffer) bytes (drop (at + length bytes) buffer)) ∙ sym (put_fits bytes at buffer (omega arith)))
 
 -- a number that was written is read again
 pub be_put : (width n at : ℕ) (buffer : List ℕ) → at + width ≤ length buffer → n < 256 ^ width → be width (put (bytes_of width n) at buffer) at ≡ n
