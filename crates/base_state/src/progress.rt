@@ -46,7 +46,8 @@ pub fn opening_begun(header: Header, progress: Progress) -> Progress
 pub fn frame_begun(cursor: usize, operations: u32, frame: u32, progress: Progress) -> Progress
     ensures { result ≡ progress_at (frame_from cursor operations frame) true false progress.wave_sources }
 {
-    progress_at(frame_from(cursor, operations, frame), true, false, progress.wave_sources)
+    let first = frame_from(cursor, operations, frame);
+    progress_at(first, true, false, progress.wave_sources)
 }
 
 // The frame is over, and with it the vsync.
@@ -62,7 +63,8 @@ pub fn frame_ended(progress: Progress) -> Progress
 pub fn before_frame(progress: Progress, cursor: usize, frame: u32) -> Progress
     ensures { result ≡ progress_at (between_at cursor frame) true false progress.wave_sources }
 {
-    progress_at(between_at(cursor, frame), true, false, progress.wave_sources)
+    let before = between_at(cursor, frame);
+    progress_at(before, true, false, progress.wave_sources)
 }
 
 // The progress at a cursor, with so many operations done, and so many writes of the operation there.

@@ -1,5 +1,5 @@
 -- Before each turn `value` has less than four bytes (`be_within`), and the turn adds one (`be_next`).
-use Rattle.std.proofs.Common.{rules, ◌≡◌, refl, arith, Fits, w32, ◌*◌, ◌+◌, ◌<◌, ◌^◌}
+use Rattle.std.proofs.Common.{rules, refl, arith}
 use Rattle.base_format.specs.Bytes.{be}
 use Rattle.base_format.proofs.Bytes.{be_next, be_within}
 use Rattle.bytes_read.proofs.read_be.Goals as goal
