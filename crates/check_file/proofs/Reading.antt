@@ -7,21 +7,21 @@ use lib.Dec.{eqb}
 use Rattle.base_format.specs.declared.header.Header.{Header}
 use Rattle.base_format.specs.Bytes.{byte}
 use Rattle.base_format.specs.Card.{cards_from}
-use Rattle.base_format.specs.Checked.{ok, refused, mapped}
+use Rattle.base_format.specs.Checked.{Checked, ok, refused, ◌>>=◌}
 use Rattle.base_format.specs.Header.{header_size, header_from, header_of, plain_header, pooled_header, card_count}
 use Rattle.base_format.specs.Stream.{read}
 use Rattle.base_format.proofs.Accepted.{header_passed}
 use Rattle.base_format.proofs.Cards.{table_cards}
-use Rattle.check_file.specs.Answer.{record_of}
-use Rattle.check_file.specs.Walk.{behind_header}
+use Rattle.check_file.specs.Answer.{recorded}
+use Rattle.check_file.specs.Walk.{behind_header, walked}
 use Rattle.base_format.proofs.InTurn.{mapped_bind, mapped_then, bind_mapped, bind_bind, then_bind, bind_then, then_then}
 
 -- the header that is found is the file's
-pub header_is : (file : List ℕ) (header : Header) → header_from file ≡ ok header → header ≡ header_of file
+header_is : (file : List ℕ) (header : Header) → header_from file ≡ ok header → header ≡ header_of file
 header_is file header e = (header_passed file header e).0
 
 -- only version 4 has cards, and they start at 48
-pub cards_place : (file : List ℕ) (header : Header) → header ≡ header_of file → cards_from file header.card_count (header_size header.version) 0 ≡ cards_from file header.card_count 48 0
+cards_place : (file : List ℕ) (header : Header) → header ≡ header_of file → cards_from file header.card_count (header_size header.version) 0 ≡ cards_from file header.card_count 48 0
 unfolding header_of plain_header pooled_header card_count header_size cards_from
 cards_place file header e = rw e (go (eqb (byte file 4) 1) (eqb (byte file 4) 4) refl)
   where
@@ -33,13 +33,21 @@ cards_place file header e = rw e (go (eqb (byte file 4) 1) (eqb (byte file 4) 4)
     go false false f = rw f
 
 -- `read` behind the header, as the code walks
-pub read_found : (file : List ℕ) (header : Header) → header_from file ≡ ok header → mapped (record_of file) (read file) ≡ behind_header file header
+read_found : (file : List ℕ) (header : Header) → header_from file ≡ ok header → recorded file ≡ behind_header file header
 unfolding read
 read_found file header e =
-    rw e
+    rw (e, ← (cards_place file header (header_is file header e)))
     (simp (← (header_is file header e), mapped_bind, mapped_then, bind_mapped, bind_bind, then_bind, bind_then, then_then, table_cards))
 
 -- a refused header is the answer
-pub read_refused : (file : List ℕ) (number place : ℕ) → header_from file ≡ refused number place → mapped (record_of file) (read file) ≡ refused number place
+read_refused : (file : List ℕ) (number place : ℕ) → header_from file ≡ refused number place → recorded file ≡ refused number place
 unfolding read
 read_refused file number place e = rw e
+
+-- the sheet's checks are those of the code
+pub recorded_walked : (file : List ℕ) → recorded file ≡ walked file
+recorded_walked file = go (header_from file) refl
+  where
+    go : (h : Checked Header) → header_from file ≡ h → recorded file ≡ (h >>= behind_header file)
+    go (ok header) e = read_found file header e
+    go (refused number place) e = read_refused file number place e

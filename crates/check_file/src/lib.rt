@@ -3,4 +3,4 @@
 
 mod check;
 
-pub use check::{FileAnswer, FileCheck, check_file};
+pub use check::{Recorded, check_file};
