@@ -22,16 +22,18 @@ pub fn read_pool(file: &[u8], directory: u32, id: u32) -> Pool
 }
 
 // The entry of a pool by its id, all 0 for an unknown pool.
+#[tactic(auto, unfolding(crate::specs::Entry::entry_of))]
 pub fn entry_of(file: &[u8], header: Header, id: u16) -> Pool
     ensures { result ≡ entry_of file.now header id }
 {
     if (id as u32) < header.pool_count {
-        return read_pool(file, header.directory_offset, id as u32);
-    }
-    Pool {
-        kind: 0,
-        size: 0,
-        offset: 0,
+        read_pool(file, header.directory_offset, id as u32)
+    } else {
+        Pool {
+            kind: 0,
+            size: 0,
+            offset: 0,
+        }
     }
 }
 
@@ -39,11 +41,6 @@ pub fn entry_of(file: &[u8], header: Header, id: u16) -> Pool
 pub fn part(file: &[u8], place: usize, size: usize) -> &[u8]
     ensures { result.now ≡ bytes.part file.now place size }
 {
-    if file.len() < place {
-        return &file[0..0];
-    }
-    if file.len() - place < size {
-        return &file[place..];
-    }
-    &file[place..place + size]
+    let rest = &file[place.min(file.len())..];
+    &rest[..size.min(rest.len())]
 }

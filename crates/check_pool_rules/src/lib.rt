@@ -11,58 +11,41 @@ use base_refusal::refuse;
 use bytes_read::{byte_at, read_u16, read_u32};
 
 // How long a payload of kind 3 may be.
+#[tactic(auto, unfolding(base_format::specs::Pool::bank_limit))]
 fn bank_limit(version: u8) -> u32
     ensures { result ≡ bank_limit version }
 {
-    if version == 4 {
-        return 0x2000000;
+    match version {
+        4 => 0x2000000,
+        3 => 0x400000,
+        _ => 0,
     }
-    if version == 3 {
-        return 0x400000;
-    }
-    0
 }
 
 // Whether a kind does not exist or may not have a size.
+#[tactic(auto, unfolding(base_format::specs::Pool::kind_wrong))]
 fn kind_wrong(version: u8, kind: u8, size: u32) -> bool
     ensures { result ≡ kind_wrong version kind size }
 {
-    if kind == 1 {
-        return size != 256;
+    match kind {
+        1 => size != 256,
+        2 => size == 0 || PCM_SIZE < size as usize,
+        3 => size == 0 || bank_limit(version) < size,
+        _ => true,
     }
-    if kind == 2 {
-        if size == 0 {
-            return true;
-        }
-        return PCM_SIZE < size as usize;
-    }
-    if kind == 3 {
-        if size == 0 {
-            return true;
-        }
-        return bank_limit(version) < size;
-    }
-    true
 }
 
 // Whether the entry of a pool at a place breaks a pool rule; its payload starts at `start`.
+#[tactic(auto, unfolding(base_format::specs::Pool::pool_wrong))]
 fn pool_wrong(file: &[u8], version: u8, at: usize, id: u32, start: usize, pool: Pool) -> bool
     requires { at + 16 < 2 ^ 64 }
     ensures { result ≡ pool_wrong version file.now at id start pool }
 {
-    if read_u16(file, at) as u32 != id {
-        return true;
-    }
-    if kind_wrong(version, pool.kind, pool.size) {
-        return true;
-    }
-    if byte_at(file, at + 3) != 0 {
-        return true;
-    }
-    if read_u32(file, at + 8) != pool.size {
-        return true;
-    }
-    pool.offset as usize != start
+    read_u16(file, at) as u32 != id
+        || kind_wrong(version, pool.kind, pool.size)
+        || byte_at(file, at + 3) != 0
+        || read_u32(file, at + 8) != pool.size
+        || pool.offset as usize != start
 }
 
 // The rules 10 and 11 for the pool whose entry stands at a place.

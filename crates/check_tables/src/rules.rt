@@ -7,23 +7,16 @@ use base_format::{CARD_SIZE, ENTRY_SIZE, FILE_LIMIT, Header};
 use check_header_rules::header_size;
 
 // What rule 8 refuses.
+#[tactic(auto, unfolding(base_format::specs::Stream::counts_wrong), using(check_header_rules::proofs::Size::header_small))]
 pub fn counts_wrong(header: Header, length: usize) -> bool
     ensures { result ≡ counts_wrong header length }
 {
-    if header.frame_count == 0 {
-        return true;
-    }
-    if FILE_LIMIT < header.total_size {
-        return true;
-    }
-    if header.total_size as usize != length {
-        return true;
-    }
-    if 65536 < header.pool_count {
-        return true;
-    }
     let behind = header_size(header.version) + header.card_count as usize * CARD_SIZE;
-    header.directory_offset as usize != behind
+    header.frame_count == 0
+        || FILE_LIMIT < header.total_size
+        || header.total_size as usize != length
+        || 65536 < header.pool_count
+        || header.directory_offset as usize != behind
 }
 
 // What rule 9 refuses.
@@ -34,14 +27,11 @@ pub fn directory_wrong(header: Header, length: usize) -> bool
 }
 
 // What rule 12 refuses.
+#[tactic(auto, unfolding(base_format::specs::Stream::sections_wrong))]
 pub fn sections_wrong(header: Header, end: usize, length: usize) -> bool
     ensures { result ≡ sections_wrong header end length }
 {
-    if header.initial_start as usize != end {
-        return true;
-    }
-    if header.frame_start < header.initial_start as usize {
-        return true;
-    }
-    length < header.frame_start
+    header.initial_start as usize != end
+        || header.frame_start < header.initial_start as usize
+        || length < header.frame_start
 }
