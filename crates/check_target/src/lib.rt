@@ -1,65 +1,39 @@
 // What an operation's target number stands for.
 #![tactic(auto)]
 
-ghost use Rattle.std.specs.Prelude.{◌≡◌, min};
+ghost use Rattle.std.specs.Prelude.{◌≡◌};
 ghost use Rattle.base_format.specs.Card.{cards_of};
 ghost use Rattle.base_format.specs.Target.{slot_target, target_of};
 
 use base_format::{CardTable, Target};
 
-// How many cards a table holds: its count, but never more than the eight that it has.
-pub fn held(count: usize) -> usize
-    ensures { result ≡ min count 8 }
-{
-    if count < 8 {
-        return count;
-    }
-    8
-}
-
 // The target that a slot is: the first card of the table with that slot.
+#[tactic(auto, using(crate::proofs::Slots::slot_here, crate::proofs::Slots::slot_behind, crate::proofs::Slots::slot_none))]
 fn find_slot(table: CardTable, slot: u8) -> Target
     ensures { result ≡ slot_target (cards_of table) slot }
 {
-    let count = held(table.count);
-    let mut i = 0;
-    while i < count {
-        let card = table.cards[i];
+    for card in &table.cards[..table.count.min(8)] {
         if card.slot == slot {
             return Target::Slot {
                 start: card.bulk_start,
                 length: card.bulk_length,
             };
         }
-        i += 1;
     }
     Target::Missing
 }
 
 // What a target number stands for.
+#[tactic(auto, unfolding(base_format::specs::Target::target_of))]
 pub fn find_target(number: u8, version: u8, table: CardTable) -> Target
     ensures { result ≡ target_of version (cards_of table) number }
 {
-    if number < 2 {
-        return Target::Core;
+    match (version, number) {
+        (_, 0 | 1) => Target::Core,
+        (_, 2) => Target::Pcm,
+        (3, 3) => Target::Bank,
+        (4, 3..=10) => find_slot(table, Target::slot(number)),
+        (4, 11) => Target::Si22,
+        _ => Target::Missing,
     }
-    if number == 2 {
-        return Target::Pcm;
-    }
-    if version == 3 {
-        if number == 3 {
-            return Target::Bank;
-        }
-        return Target::Missing;
-    }
-    if version == 4 {
-        if number <= 10 {
-            return find_slot(table, Target::slot(number));
-        }
-        if number == 11 {
-            return Target::Si22;
-        }
-        return Target::Missing;
-    }
-    Target::Missing
 }
