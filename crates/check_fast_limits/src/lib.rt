@@ -26,41 +26,44 @@ pub struct TargetLimits {
 pub type LimitTable = [[u64; TARGETS]; 4];
 
 // The address behind the last one of a WRITE; 0 for a missing target.
+#[tactic(auto, unfolding(crate::specs::Limits::write_end), using(crate::proofs::Tabled::write_limit_range))]
 fn write_end(target: Target) -> u32
     ensures { result ≡ write_end target }
 {
     if target.missing() {
-        return 0;
+        0
+    } else {
+        target.write_limit() + 1
     }
-    target.write_limit() + 1
 }
 
 // One more than the end of the range of FILL and COPY; 0 for a missing target.
+#[tactic(auto, unfolding(crate::specs::Limits::bulk_end))]
 pub fn bulk_end(target: Target) -> u64
     ensures { result ≡ bulk_end target }
 {
     if target.missing() {
-        return 0;
+        0
+    } else {
+        target.bulk_start() as u64 + target.bulk_length() as u64 + 1
     }
-    target.bulk_start() as u64 + target.bulk_length() as u64 + 1
 }
 
 // The table of a version with its cards.
+#[tactic(auto, unfolding(crate::specs::Limits::limit_table), using(crate::proofs::Tabled::filled_all))]
 pub fn limit_table(version: u8, cards: CardTable) -> LimitTable
     ensures { result ≡ limit_table version (cards_of cards) }
 {
-    let mut write_ends: [u64; TARGETS] = [0; TARGETS];
-    let mut bulk_starts: [u64; TARGETS] = [0; TARGETS];
-    let mut bulk_ends: [u64; TARGETS] = [0; TARGETS];
-    let mut kinds: [u64; TARGETS] = [0; TARGETS];
-    let mut number: usize = 0;
-    while number < TARGETS {
+    let mut write_ends = [0; TARGETS];
+    let mut bulk_starts = [0; TARGETS];
+    let mut bulk_ends = [0; TARGETS];
+    let mut kinds = [0; TARGETS];
+    for number in 0..TARGETS {
         let target = find_target(number as u8, version, cards);
         write_ends[number] = write_end(target) as u64;
         bulk_starts[number] = target.bulk_start() as u64;
         bulk_ends[number] = bulk_end(target);
         kinds[number] = target.kind() as u64;
-        number += 1;
     }
     [write_ends, bulk_starts, bulk_ends, kinds]
 }
