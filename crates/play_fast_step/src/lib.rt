@@ -2,94 +2,79 @@
 #![tactic(auto)]
 
 ghost use Rattle.std.specs.Prelude.{◌≡◌, ◌≤◌};
-ghost use Rattle.play_fast_step.specs.Step.{no_step, step_from, step_ending, step_to};
+ghost use Rattle.play_fast_step.specs.Step.{count_of, step_ending, step_to};
 
 use base_format::{Part, Position};
 use base_position::{between_at, onward_to};
 use play_fast_part::PlayingPart;
 
-// What a call takes, and where the player then is. Of its `count` writes `plain` are those of plain WRITEs from `from` on, or `others`
-// are those of WRITEs and FILLs from there on, behind the `made` ones of the first of them: one of the two is 0.
+// Whose writes a step makes: those of so many plain WRITEs; or so many records of WRITEs and FILLs, behind the `made` ones of the
+// first of them.
+#[derive(Clone, Copy)]
+pub enum StepWrites {
+    Plain(u32),
+    Fills { made: u32, count: usize },
+}
+
+impl StepWrites {
+    // How many they are.
+    pub fn count(self) -> usize
+        ensures { result ≡ count_of self }
+    {
+        match self {
+            StepWrites::Plain(count) => count as usize,
+            StepWrites::Fills { made: _, count } => count,
+        }
+    }
+}
+
+// What a call takes from a place on, whether the vsync is then complete, and where the player then is.
 #[derive(Clone, Copy)]
 pub struct Step {
-    pub taken: bool,
     pub from: usize,
-    pub made: u32,
-    pub plain: u32,
-    pub others: usize,
-    pub count: usize,
+    pub writes: StepWrites,
     pub complete: bool,
     pub to: Position,
 }
 
-// The call is not taken.
-pub fn no_step() -> Step
-    ensures { result ≡ no_step }
-{
-    Step {
-        taken: false,
-        from: 0,
-        made: 0,
-        plain: 0,
-        others: 0,
-        count: 0,
-        complete: false,
-        to: between_at(0, 0),
-    }
-}
-
-// A step that is taken from a position to another.
-fn step_from(
-    at: Position,
-    plain: u32,
-    others: usize,
-    count: usize,
-    complete: bool,
-    to: Position,
-) -> Step
-    ensures { result ≡ step_from at plain others count complete to }
-{
-    Step {
-        taken: true,
-        from: at.cursor,
-        made: at.write_index,
-        plain: plain,
-        others: others,
-        count: count,
-        complete: complete,
-        to: to,
-    }
-}
-
 // The step that leaves no operation of the part. The call that ends the opening is not taken, because it goes on with frame 1.
-fn step_to_end(playing: PlayingPart, cursor: usize, plain: u32, others: usize, count: usize) -> Step
-    ensures { result ≡ step_ending playing cursor plain others count }
+#[tactic(auto, unfolding(crate::specs::Step::step_ending))]
+fn step_to_end(playing: PlayingPart, cursor: usize, writes: StepWrites) -> Option<Step>
+    ensures { result ≡ step_ending playing cursor writes }
 {
     let at = playing.at;
     if at.part == Part::OPENING {
-        return no_step();
+        return None;
     }
-    let to = between_at(cursor, at.frame_index);
-    step_from(at, plain, others, count, true, to)
+    Some(Step {
+        from: at.cursor,
+        writes,
+        complete: true,
+        to: between_at(cursor, at.frame_index),
+    })
 }
 
 // The step that leaves so many operations of the part, the next one at a cursor with so many writes made.
+#[tactic(auto, unfolding(crate::specs::Step::step_to))]
 pub fn step_to(
     playing: PlayingPart,
     left: u32,
     cursor: usize,
-    writes: u32,
-    plain: u32,
-    others: usize,
-    count: usize,
-) -> Step
+    made: u32,
+    writes: StepWrites,
+) -> Option<Step>
     requires { left ≤ playing.at.operation_count }
-    ensures { result ≡ step_to playing left cursor writes plain others count }
+    ensures { result ≡ step_to playing left cursor made writes }
 {
     if left == 0 {
-        return step_to_end(playing, cursor, plain, others, count);
+        return step_to_end(playing, cursor, writes);
     }
     let at = playing.at;
-    let to = onward_to(at, cursor, at.operation_count - left, writes);
-    step_from(at, plain, others, count, false, to)
+    let to = onward_to(at, cursor, at.operation_count - left, made);
+    Some(Step {
+        from: at.cursor,
+        writes,
+        complete: false,
+        to,
+    })
 }
