@@ -5,6 +5,7 @@ use mathlib.Core.List.{List}
 use mathlib.Core.Path.{◌≡◌}
 use native.Mathlib.Omega.{arith}
 use borrow.Author.Tests.{lt-leb, le-leb}
+use Rattle.std.specs.Prelude.{None}
 use Rattle.base_format.specs.Bytes.{part}
 use Rattle.play_fast_plain.specs.Plain.{plain_size, plain_in, plain_at, plain_behind}
 
@@ -17,13 +18,13 @@ module _ (version : ℕ) (file : List ℕ) (end : ℕ) where
       rw (le-leb (at + 16) end (omega arith), plain, less)
 
   -- no 16 bytes before the end
-  pub behind_short : (left at : ℕ) → 0 < left → end < at + 16 → plain_behind version file end left at ≡ 0
+  pub behind_short : (left at : ℕ) → 0 < left → end < at + 16 → plain_behind version file end left at ≡ None
   unfolding plain_behind plain_at
   behind_short zero at some short = absurd (omega arith)
   behind_short (suc left) at some short = rw (lt-leb (at + 16) end short)
 
   -- one that is not plain
-  pub behind_other : (left at : ℕ) → 0 < left → at + 16 < end + 1 → plain_in version (part file at 16) ≡ false → plain_behind version file end left at ≡ 0
+  pub behind_other : (left at : ℕ) → 0 < left → at + 16 < end + 1 → plain_in version (part file at 16) ≡ false → plain_behind version file end left at ≡ None
   unfolding plain_behind plain_at
   behind_other zero at some room other = absurd (omega arith)
   behind_other (suc left) at some room other = rw (le-leb (at + 16) end (omega arith), other)

@@ -6,24 +6,25 @@ use mathlib.Core.Path.{◌≡◌, refl, sym, ap, ◌∙◌}
 use native.Mathlib.Omega.{arith}
 use borrow.Author.Tests.{le-ltb}
 use lib.Dec.{ltb}
+use Rattle.std.specs.Prelude.{Some, None}
 use Rattle.base_format.specs.declared.operation.WriteRecord.{WriteRecord}
 use Rattle.base_format.specs.declared.player.Progress.{Progress}
 use Rattle.base_format.specs.declared.player.StreamPlayer.{StreamPlayer}
-use Rattle.base_format.specs.Checked.{Checked, ok, refused, mapped, ◌>>=◌, ◌>>◌}
+use Rattle.base_format.specs.Checked.{Checked, ok, refused, mapped, ◌>>=◌}
 use Rattle.base_format.specs.Player.{Gathered, placed, waves_by, bytes_at, gathered}
 use Rattle.play_fast_plain.specs.Plain.{plain_size, plain_at, plain_behind, plain_write, plain_writes}
 use Rattle.play_fast_plain.proofs.Items.{plain_writes_lem, plain_used}
 
--- so many plain WRITEs: each of them is plain, and the place behind them is by their size
-pub all_plain : (version : ℕ) (file : List ℕ) (end count at : ℕ) → 0 < plain_behind version file end (suc count) at
-    → (plain_at version file end at ≡ true) × (plain_behind version file end (suc count) at ≡ plain_behind version file end count (at + plain_size version))
+-- so many plain WRITEs: the first one is plain, and the others stand behind it
+pub all_plain : (version : ℕ) (file : List ℕ) (end count at behind : ℕ) → Some behind ≡ plain_behind version file end (suc count) at
+    → (plain_at version file end at ≡ true) × (Some behind ≡ plain_behind version file end count (at + plain_size version))
 unfolding plain_behind
-all_plain version file end count at some = go (plain_at version file end at) refl some
+all_plain version file end count at behind e = go (plain_at version file end at) refl e
   where
-    go : (b : Bool) → plain_at version file end at ≡ b → 0 < cond b (plain_behind version file end count (at + plain_size version)) 0
-        → (plain_at version file end at ≡ true) × (cond (plain_at version file end at) (plain_behind version file end count (at + plain_size version)) 0 ≡ plain_behind version file end count (at + plain_size version))
-    go true e h = (e, rw e)
-    go false e h = absurd (omega (arith, h))
+    go : (b : Bool) → plain_at version file end at ≡ b → Some behind ≡ cond b (plain_behind version file end count (at + plain_size version)) None
+        → (plain_at version file end at ≡ true) × (Some behind ≡ plain_behind version file end count (at + plain_size version))
+    go true is h = (is, h)
+    go false is h = cc
 
 -- what is gathered behind some records
 abbrev after : List WriteRecord → Gathered → Gathered
@@ -63,23 +64,24 @@ module _ (state : StreamPlayer) (file : List ℕ) (limit end : ℕ) (within : en
       (then_after (plain_write version file p.cursor ∷ []) (gathered state file limit left room (placed p (p.cursor + plain_size version) (p.operation_index + 1) 0 p.wave_sources)))
 
   -- so many of them
-  pub gather_plain : (count left room : ℕ) (p : Progress) → p.write_index ≡ 0 → 0 < plain_behind version file end count p.cursor
+  pub gather_plain : (count left room behind : ℕ) (p : Progress) → p.write_index ≡ 0 → Some behind ≡ plain_behind version file end count p.cursor
       → gathered state file limit (count + left) (count + room) p
-      ≡ mapped (after (plain_writes version file count p.cursor)) (gathered state file limit left room (placed p (plain_behind version file end count p.cursor) (p.operation_index + count) 0 p.wave_sources))
+      ≡ mapped (after (plain_writes version file count p.cursor)) (gathered state file limit left room (placed p behind (p.operation_index + count) 0 p.wave_sources))
   unfolding plain_behind plain_writes
-  gather_plain zero left room p none some =
+  gather_plain zero left room behind p none is =
       let left' : 0 + left ≡ left = omega arith in
       let room' : 0 + room ≡ room = omega arith in
-      rw (left', room', stays p none) (sym (after_none (gathered state file limit left room p)))
-  gather_plain (suc count) left room p none some =
+      let same : behind ≡ p.cursor = cc is in
+      rw (left', room', same, stays p none) (sym (after_none (gathered state file limit left room p)))
+  gather_plain (suc count) left room behind p none is =
       let left' : suc count + left ≡ suc (count + left) = omega arith in
       let room' : suc count + room ≡ suc (count + room) = omega arith in
       let index : p.operation_index + 1 + count ≡ p.operation_index + suc count = omega arith in
-      let plain = all_plain version file end count p.cursor some in
+      let plain = all_plain version file end count p.cursor behind is in
       let onward : Progress = placed p (p.cursor + plain_size version) (p.operation_index + 1) 0 p.wave_sources in
-      rw (left', room', gather_one (count + left) (count + room) p none plain.0, gather_plain count left room onward refl (rw plain.1 at some), plain.1, index)
+      rw (left', room', gather_one (count + left) (count + room) p none plain.0, gather_plain count left room behind onward refl plain.1, index)
       (after_after (plain_write version file p.cursor ∷ []) (plain_writes version file count (p.cursor + plain_size version))
-      (gathered state file limit left room (placed p (plain_behind version file end count (p.cursor + plain_size version)) (p.operation_index + suc count) 0 p.wave_sources)))
+      (gathered state file limit left room (placed p behind (p.operation_index + suc count) 0 p.wave_sources)))
 
   -- where no operation is left, or no room
   at_rest : (left room : ℕ) (p : Progress) → (0 < left → room ≡ 0) → gathered state file limit left room p ≡ ok (record { records = []; room = room; progress = p })
@@ -88,17 +90,17 @@ module _ (state : StreamPlayer) (file : List ℕ) (limit end : ℕ) (within : en
   at_rest (suc left) room p full = rw (full (omega arith))
 
   -- as many as are left, or as there is room for
-  pub gather_all : (count left room : ℕ) (p : Progress) → count ≤ left → count ≤ room → (count < left → count ≡ room) → p.write_index ≡ 0
-      → 0 < plain_behind version file end count p.cursor
+  pub gather_all : (count left room behind : ℕ) (p : Progress) → count ≤ left → count ≤ room → (count < left → count ≡ room) → p.write_index ≡ 0
+      → Some behind ≡ plain_behind version file end count p.cursor
       → gathered state file limit left room p ≡ ok (record {
         records = plain_writes version file count p.cursor;
         room = room - count;
-        progress = placed p (plain_behind version file end count p.cursor) (p.operation_index + count) 0 p.wave_sources;
+        progress = placed p behind (p.operation_index + count) 0 p.wave_sources;
       })
-  gather_all count left room p few fit full none some =
+  gather_all count left room behind p few fit full none is =
       let left' : count + (left - count) ≡ left = omega arith in
       let room' : count + (room - count) ≡ room = omega arith in
-      let behind : Progress = placed p (plain_behind version file end count p.cursor) (p.operation_index + count) 0 p.wave_sources in
-      rw (left', room') at (gather_plain count (left - count) (room - count) p none some)
-      ∙ ap (mapped (after (plain_writes version file count p.cursor))) (at_rest (left - count) (room - count) behind (λ (more : 0 < left - count). omega (arith, full (omega arith))))
-      ∙ ap (λ (records : List WriteRecord). ok (record { records = records; room = room - count; progress = behind })) (append-nil (plain_writes version file count p.cursor))
+      let behind' : Progress = placed p behind (p.operation_index + count) 0 p.wave_sources in
+      rw (left', room') at (gather_plain count (left - count) (room - count) behind p none is)
+      ∙ ap (mapped (after (plain_writes version file count p.cursor))) (at_rest (left - count) (room - count) behind' (λ (more : 0 < left - count). omega (arith, full (omega arith))))
+      ∙ ap (λ (records : List WriteRecord). ok (record { records = records; room = room - count; progress = behind' })) (append-nil (plain_writes version file count p.cursor))

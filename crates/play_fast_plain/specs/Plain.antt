@@ -1,5 +1,5 @@
 -- Plain WRITEs: records and WRITEs to a target whose limit needs no card. A run of them is passed, and stored, by loops of their own.
-use Rattle.std.specs.Prelude.{ℕ, zero, suc, ◌+◌, Bool, cond, ◌&&◌, List, [], ◌∷◌, eqb, leb, ltb}
+use Rattle.std.specs.Prelude.{ℕ, zero, suc, ◌+◌, Bool, cond, ◌&&◌, List, [], ◌∷◌, eqb, leb, ltb, Option, Some, None}
 use Rattle.base_format.specs.declared.operation.WriteRecord.{WriteRecord}
 use Rattle.base_format.specs.Bytes.{part}
 use Rattle.base_format.specs.Operation.{address_width, size_of}
@@ -32,10 +32,10 @@ plain_in version bytes =
 unfoldable pub plain_at : (version : ℕ) → List ℕ → (end at : ℕ) → Bool
 plain_at version file end at = leb (at + operation_most) end && plain_in version (part file at operation_most)
 
--- the place behind so many of them, or 0 where they are not all plain
-unfoldable pub plain_behind : (version : ℕ) → List ℕ → (end count at : ℕ) → ℕ
-plain_behind version file end zero at = at
-plain_behind version file end (suc count) at = cond (plain_at version file end at) (plain_behind version file end count (at + plain_size version)) 0
+-- the place behind so many of them, where all of them are plain
+unfoldable pub plain_behind : (version : ℕ) → List ℕ → (end count at : ℕ) → Option ℕ
+plain_behind version file end zero at = Some at
+plain_behind version file end (suc count) at = cond (plain_at version file end at) (plain_behind version file end count (at + plain_size version)) None
 
 -- the value of one
 unfoldable pub plain_value : (version : ℕ) → List ℕ → ℕ

@@ -14,31 +14,21 @@ use bytes_operation::{
 use bytes_read::window;
 
 // The address behind the last one of such a target; 0 for the others.
+#[tactic(auto, unfolding(crate::specs::Plain::plain_end))]
 fn plain_end(version: u8, target: u8) -> u32
     ensures { result ≡ plain_end version target }
 {
-    if target < 2 {
-        return Target::CORE_LAST + 1;
+    match (version, target) {
+        (_, 0 | 1) => Target::CORE_LAST + 1,
+        (_, 2) => Target::PCM_LAST + 1,
+        (3, 3) => Target::CARD_LAST + 1,
+        (4, 11) => Target::SI22_LAST + 1,
+        _ => 0,
     }
-    if target == 2 {
-        return Target::PCM_LAST + 1;
-    }
-    if version == 3 {
-        if target == 3 {
-            return Target::CARD_LAST + 1;
-        }
-        return 0;
-    }
-    if version == 4 {
-        if target == 11 {
-            return Target::SI22_LAST + 1;
-        }
-        return 0;
-    }
-    0
 }
 
 // How many bytes a plain WRITE has.
+#[tactic(auto, unfolding(crate::specs::Plain::plain_size), using(crate::proofs::Items::size_small))]
 pub fn plain_size(version: u8) -> usize
     ensures { (result ≡ plain_size version) × (result ≤ operation_most) }
 {
@@ -49,6 +39,7 @@ pub fn plain_size(version: u8) -> usize
 }
 
 // Whether 16 bytes begin with one.
+#[tactic(auto, unfolding(crate::specs::Plain::plain_in, bytes_operation::specs::Decoded::decoded_item, bytes_operation::specs::Decoded::decoded_record, bytes_operation::specs::Decoded::decoded_operation))]
 fn plain_in(version: u8, bytes: &[u8]) -> bool
     ensures { result ≡ plain_in version bytes.now }
 {
@@ -63,26 +54,25 @@ fn plain_in(version: u8, bytes: &[u8]) -> bool
     address_in(bytes, address_width(version)) < plain_end(version, target)
 }
 
-// The place behind so many of them; 0 where one is not plain or has no 16 bytes before the end.
-pub fn plain_behind(file: &[u8], version: u8, end: usize, count: u32, start: usize) -> usize
+// The place behind so many of them; none where one is not plain or has no 16 bytes before the end.
+#[tactic(auto, unfolding(crate::specs::Plain::plain_behind), using(crate::proofs::Behind::behind_step, crate::proofs::Behind::behind_short, crate::proofs::Behind::behind_other))]
+pub fn plain_behind(file: &[u8], version: u8, end: usize, count: u32, start: usize) -> Option<usize>
     requires { end ≤ length file.now }
     ensures { result ≡ plain_behind version file.now end count start }
 {
     let size = plain_size(version);
     let mut at = start;
-    let mut left = count;
-    while 0 < left {
+    for _i in 0..count {
         if end < OPERATION_MOST {
-            return 0;
+            return None;
         }
         if end - OPERATION_MOST < at {
-            return 0;
+            return None;
         }
         if !plain_in(version, window(file, at)) {
-            return 0;
+            return None;
         }
         at += size;
-        left -= 1;
     }
-    at
+    Some(at)
 }

@@ -6,25 +6,22 @@ ghost use Rattle.std.specs.Prelude.{◌≡◌, ◌≤◌, length};
 ghost use Rattle.play_fast_plain_step.specs.PlainStep.{plain_step};
 
 use base_next_part::operations_left;
-use bytes_read::smaller;
 use play_fast_part::PlayingPart;
 use play_fast_plain::plain_behind;
-use play_fast_step::{Step, no_step, step_to};
+use play_fast_step::{Step, StepWrites, step_to};
 
 // The step of a call with room for so many records. An operation whose writes are begun is not passed.
-pub fn plain_step(file: &[u8], version: u8, playing: PlayingPart, room: usize) -> Step
+#[tactic(auto, unfolding(crate::specs::PlainStep::plain_step))]
+pub fn plain_step(file: &[u8], version: u8, playing: PlayingPart, room: usize) -> Option<Step>
     requires { playing.limit ≤ length file.now }
     ensures { result ≡ plain_step file.now version playing room }
 {
     let at = playing.at;
     if at.write_index != 0 {
-        return no_step();
+        return None;
     }
     let left = operations_left(at.operation_index, at.operation_count);
-    let count = smaller(room, left as usize) as u32;
-    let behind = plain_behind(file, version, playing.limit, count, at.cursor);
-    if behind == 0 {
-        return no_step();
-    }
-    step_to(playing, left - count, behind, 0, count, 0, count as usize)
+    let count = room.min(left as usize) as u32;
+    let behind = plain_behind(file, version, playing.limit, count, at.cursor)?;
+    step_to(playing, left - count, behind, 0, StepWrites::Plain(count))
 }
