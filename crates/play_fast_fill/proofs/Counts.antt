@@ -1,14 +1,16 @@
 -- What the count of an operation that is allowed says.
-use Prim.Native.Nat.{ℕ, ◌+◌, ◌*◌, ◌≤◌}
+use Prim.Native.Nat.{ℕ, ◌+◌, ◌*◌, ◌≤◌, ◌<◌}
 use mathlib.Core.Path.{◌≡◌, refl}
 use mathlib.Core.Bool.{Bool, true, false, cond, true≢false}
 use mathlib.Core.List.{List}
-use borrow.Author.Tests.{ltb-false, le-ltb}
+use native.Mathlib.Omega.{arith}
+use borrow.Author.Tests.{ltb-false, le-ltb, ne_eqb}
 use lib.Dec.{eqb, ltb}
 use lib.ListN.{get_or}
+use Rattle.base_format.specs.Bytes.{byte, part}
 use Rattle.check_fast_rules.specs.Quick.{out_of_bulk}
 use Rattle.bytes_operation.specs.declared.decode.Decoded.{Decoded}
-use Rattle.bytes_operation.specs.Decoded.{decoded_at}
+use Rattle.bytes_operation.specs.Decoded.{decoded_at, decoded_operation}
 use Rattle.play_fast_fill.specs.Fills.{fill_count, count_at}
 
 -- an operation that has a count
@@ -51,3 +53,16 @@ module _ (file : List ℕ) (width : ℕ) (starts ends : List ℕ) (limit at : �
       go : (b : Bool) → ltb limit (at + 16) ≡ b → eqb (cond b 0 (fill_count (decoded_at width file at) starts ends)) 0 ≡ false → at + 16 ≤ limit
       go true e none = absurd (true≢false none)
       go false e some = ltb-false limit (at + 16) e
+
+  -- as it is read from the 16 bytes there
+  pub count_read : (past : Bool) (bytes : List ℕ) (count : ℕ) → past ≡ ltb limit (at + 16) → past ≡ false → bytes ≡ part file at 16
+      → count ≡ fill_count (decoded_operation width bytes) starts ends → count_at file width starts ends limit at ≡ count
+  unfolding count_at
+  count_read past bytes count is inside read counts = rw (← is, inside, counts, read)
+
+-- an operation whose count is above some writes has the opcode 0 or 1
+pub count_low : (width : ℕ) (bytes starts ends : List ℕ) (count made : ℕ) → count ≡ fill_count (decoded_operation width bytes) starts ends → made < count → byte bytes 0 ≤ 1
+unfolding decoded_operation
+count_low width bytes starts ends count made is more =
+    let some : count ≡ 0 → ⊥ = λ none. omega (arith, none, more) in
+    (counted (decoded_operation width bytes) starts ends (rw (← is) (ne_eqb _ _ some))).opcode

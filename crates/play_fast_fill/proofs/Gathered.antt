@@ -1,11 +1,12 @@
 -- A part's WRITEs and FILLs that are taken are what a call gathers of it, with the same records.
 use Prim.Native.Nat.{ℕ, zero, suc, ◌+◌, ◌-◌, ◌≤◌, ◌<◌}
 use mathlib.Core.Path.{◌≡◌, refl, sym, ap, ◌∙◌}
-use mathlib.Core.Bool.{Bool, true, false, cond, ◌&&◌, false≢true}
+use mathlib.Core.Bool.{Bool, true, false, cond, ◌&&◌}
 use mathlib.Core.List.{List, [], ◌++◌}
 use native.Mathlib.Omega.{arith}
 use borrow.Author.Tests.{ltb-false, leb-true, leb-false, le-ltb, ltb-true, ne_eqb}
 use lib.Dec.{eqb, leb, ltb}
+use Rattle.std.specs.Prelude.{Option, Some, None}
 use lib.ListN.{length, take, drop, replicate, length-drop, length-replicate}
 use Rattle.base_format.specs.declared.operation.WriteRecord.{WriteRecord}
 use Rattle.base_format.specs.declared.player.Progress.{Progress}
@@ -117,7 +118,7 @@ module _ (state : StreamPlayer) (file : List ℕ) (limit end : ℕ) (pooled : eq
 
   -- SO MANY OPERATIONS
 
-  abbrev walk : (left room cursor writes : ℕ) → FillsTaken
+  abbrev walk : (left room cursor writes : ℕ) → Option FillsTaken
   walk left room cursor writes = fills_from file (width_of state) (starts_in state) (ends_in state) end left room cursor writes
 
   abbrev count : ℕ → ℕ
@@ -125,7 +126,7 @@ module _ (state : StreamPlayer) (file : List ℕ) (limit end : ℕ) (pooled : eq
 
   -- as it stands
   stands : (left room : ℕ) (p : Progress) → gathered state file limit left room p ≡ ok (record { records = []; room = room; progress = p })
-      → gathered state file limit left room p ≡ ok (taken state file left room p (stopped_at true p.cursor left room p.write_index))
+      → gathered state file limit left room p ≡ ok (taken state file left room p (stopped_at p.cursor left room p.write_index))
   unfolding fill_records
   stands left room p e =
       let index : p.operation_index + (left - left) ≡ p.operation_index = omega arith in
@@ -140,13 +141,15 @@ module _ (state : StreamPlayer) (file : List ℕ) (limit end : ℕ) (pooled : eq
   unfolding gathered
   no_room left p = refl
 
-  from_gathered : (left room : ℕ) (p : Progress) → (walk left room p.cursor p.write_index).taken ≡ true
-      → gathered state file limit left room p ≡ ok (taken state file left room p (walk left room p.cursor p.write_index))
-  from_gathered zero room p is =
-      rw (fills_end file (width_of state) (starts_in state) (ends_in state) end room p.cursor p.write_index) (stands 0 room p (nothing_left room p))
-  from_gathered (suc left) zero p is =
-      rw (fills_full file (width_of state) (starts_in state) (ends_in state) end (suc left) p.cursor p.write_index) (stands (suc left) 0 p (no_room left p))
-  from_gathered (suc left) (suc others) p is = go (leb (count p.cursor) made) refl (from_gathered left (suc others - rest) behind)
+  from_gathered : (left room : ℕ) (p : Progress) (r : FillsTaken) → Some r ≡ walk left room p.cursor p.write_index
+      → gathered state file limit left room p ≡ ok (taken state file left room p r)
+  from_gathered zero room p r is =
+      let at : r ≡ stopped_at p.cursor 0 room p.write_index = cc (is, fills_end file (width_of state) (starts_in state) (ends_in state) end room p.cursor p.write_index) in
+      rw at (stands 0 room p (nothing_left room p))
+  from_gathered (suc left) zero p r is =
+      let at : r ≡ stopped_at p.cursor (suc left) 0 p.write_index = cc (is, fills_full file (width_of state) (starts_in state) (ends_in state) end (suc left) p.cursor p.write_index) in
+      rw at (stands (suc left) 0 p (no_room left p))
+  from_gathered (suc left) (suc others) p r is = go (leb (count p.cursor) made) refl (from_gathered left (suc others - rest) behind r)
     where
       made : ℕ
       made = p.write_index
@@ -160,22 +163,20 @@ module _ (state : StreamPlayer) (file : List ℕ) (limit end : ℕ) (pooled : eq
       behind : Progress
       behind = placed p onto (p.operation_index + 1) 0 p.wave_sources
 
-      r : FillsTaken
-      r = walk left (suc others - rest) onto 0
-
       -- the operations behind the first
       Others : Type 0
-      Others = r.taken ≡ true → gathered state file limit left (suc others - rest) behind ≡ ok (taken state file left (suc others - rest) behind r)
+      Others = Some r ≡ walk left (suc others - rest) onto 0 → gathered state file limit left (suc others - rest) behind ≡ ok (taken state file left (suc others - rest) behind r)
 
       first : Others → Used state file limit p.cursor → count p.cursor ≡ (item_on state file p.cursor).length → p.cursor + 16 ≤ end → made < count p.cursor
-          → (b : Bool) → ltb (suc others) rest ≡ b → walk (suc left) (suc others) p.cursor made ≡ cond b (stopped_at true p.cursor (suc left) 0 (made + suc others)) r
-          → gathered state file limit (suc left) (suc others) p ≡ ok (taken state file (suc left) (suc others) p (walk (suc left) (suc others) p.cursor made))
+          → (b : Bool) → ltb (suc others) rest ≡ b → Some r ≡ cond b (Some (stopped_at p.cursor (suc left) 0 (made + suc others))) (walk left (suc others - rest) onto 0)
+          → gathered state file limit (suc left) (suc others) p ≡ ok (taken state file (suc left) (suc others) p r)
       first later u same whole more true short e =
+          let at : r ≡ stopped_at p.cursor (suc left) 0 (made + suc others) = cc e in
           let index : p.operation_index + (suc left - suc left) ≡ p.operation_index = omega arith in
           let room : suc others - 0 ≡ suc others = omega arith in
-          rw (e, index, room) (cut (suc left) (suc others) p (omega arith) (omega arith) u whole (rw same at more) (rw same at short))
+          rw (at, index, room) (cut (suc left) (suc others) p (omega arith) (omega arith) u whole (rw same at more) (rw same at short))
       first later u same whole more false enough e =
-          let fewer = from_fewer file (width_of state) (starts_in state) (ends_in state) end left (suc others - rest) onto 0 in
+          let fewer = from_fewer file (width_of state) (starts_in state) (ends_in state) end left (suc others - rest) onto 0 r e in
           let one : suc left - 1 ≡ left = omega arith in
           let index : p.operation_index + 1 + (left - r.left) ≡ p.operation_index + (suc left - r.left) = omega (arith, fewer.0) in
           let all : ℕ = (item_on state file p.cursor).length in
@@ -183,32 +184,33 @@ module _ (state : StreamPlayer) (file : List ℕ) (limit end : ℕ) (pooled : eq
           let sum : all - made + n ≡ suc others - r.room = omega (arith, same, fewer.1, ltb-false (suc others) rest enough) in
           let more' = rw same at more in
           let both = joined (suc left) (suc others) p (omega arith) (omega arith) u whole more' n ∙ ap (λ (k : ℕ). fill_records file (version_of state) k (fill_place p.cursor made)) sum in
-          rw e (onward (suc left) (suc others) p (omega arith) (omega arith) u whole more' (rw same at enough) (taken state file left (suc others - rest) behind r) (rw (one, ← same) (later (rw e at is)))
-          ∙ rw (both, index))
+          onward (suc left) (suc others) p (omega arith) (omega arith) u whole more' (rw same at enough) (taken state file left (suc others - rest) behind r) (rw (one, ← same) (later e))
+          ∙ rw (both, index)
 
-      go : (b : Bool) → leb (count p.cursor) made ≡ b → Others → gathered state file limit (suc left) (suc others) p ≡ ok (taken state file (suc left) (suc others) p (walk (suc left) (suc others) p.cursor made))
+      go : (b : Bool) → leb (count p.cursor) made ≡ b → Others → gathered state file limit (suc left) (suc others) p ≡ ok (taken state file (suc left) (suc others) p r)
       go true none later =
-          absurd (false≢true (rw (fills_none file (width_of state) (starts_in state) (ends_in state) end (suc left) (suc others) p.cursor made (omega arith) (omega arith) none) at is))
+          let nothing = fills_none file (width_of state) (starts_in state) (ends_in state) end (suc left) (suc others) p.cursor made (omega arith) (omega arith) none in
+          cc (is, nothing)
       go false more later =
           let some : made < count p.cursor = leb-false (count p.cursor) made more in
           let one : suc left - 1 ≡ left = omega arith in
           let u = used state file limit end p.cursor pooled most (ne_eqb (count p.cursor) 0 (λ none. omega arith)) in
-          first later u.0 u.1 u.2 some (ltb (suc others) rest) refl (fills_step file (width_of state) (starts_in state) (ends_in state) end (suc left) (suc others) p.cursor made (omega arith) (omega arith) more ∙ rw one)
+          let step = fills_step file (width_of state) (starts_in state) (ends_in state) end (suc left) (suc others) p.cursor made (omega arith) (omega arith) more ∙ rw one in
+          first later u.0 u.1 u.2 some (ltb (suc others) rest) refl (is ∙ step)
 
 -- with the ranges of a version and its cards, and the same limit or a later one
 pub fills_gathered : (state : StreamPlayer) (file : List ℕ) (limit later left room cursor writes : ℕ) (p : Progress) (r : FillsTaken) → limit ≤ later → limit ≤ length file
-    → p.cursor ≡ cursor → p.write_index ≡ writes → r ≡ fills_taken file (version_of state) (cards_of state.cards) limit left room cursor writes → r.taken ≡ true
+    → p.cursor ≡ cursor → p.write_index ≡ writes → Some r ≡ fills_taken file (version_of state) (cards_of state.cards) limit left room cursor writes
     → gathered state file later left room p ≡ ok (taken state file left room p r)
 unfolding fills_taken
-fills_gathered state file limit later left room cursor writes p r most inside at done is passed =
-    rw is (go (leb 2 (version_of state) && leb (version_of state) 4) refl (rw is at passed))
+fills_gathered state file limit later left room cursor writes p r most inside at done is =
+    go (leb 2 (version_of state) && leb (version_of state) 4) refl is
   where
-    by : Bool → FillsTaken
-    by b = cond b (fills_from file (width_of state) (starts_in state) (ends_in state) limit left room cursor writes) (stopped_at false cursor left room writes)
-
-    go : (b : Bool) → (leb 2 (version_of state) && leb (version_of state) 4) ≡ b → (by b).taken ≡ true → gathered state file later left room p ≡ ok (taken state file left room p (by b))
-    go true e passed =
+    go : (b : Bool) → (leb 2 (version_of state) && leb (version_of state) 4) ≡ b
+        → Some r ≡ cond b (fills_from file (width_of state) (starts_in state) (ends_in state) limit left room cursor writes) None
+        → gathered state file later left room p ≡ ok (taken state file left room p r)
+    go true e walked =
         let low : 2 ≤ version_of state = leb-true 2 (version_of state) (and_true (leb 2 (version_of state)) (leb (version_of state) 4) e).0 in
         let pooled : eqb (version_of state) 1 ≡ false = ne_eqb (version_of state) 1 (λ one. omega arith) in
-        rw (← at, ← done) (from_gathered state file later limit pooled most inside left room p (rw (at, done) passed))
-    go false e passed = absurd (false≢true passed)
+        from_gathered state file later limit pooled most inside left room p r (rw (at, done) walked)
+    go false e walked = cc

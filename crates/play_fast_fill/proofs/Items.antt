@@ -7,6 +7,7 @@ use native.Mathlib.Omega.{arith}
 use borrow.Author.Tests.{eqb-true}
 use lib.Dec.{eqb}
 use lib.ListN.{get_or, replicate}
+use Rattle.base_format.specs.declared.operation.Item.{Item}
 use Rattle.base_format.specs.declared.operation.Operation.{Operation}
 use Rattle.base_format.specs.declared.operation.Operation.TheVariants.{Write, Fill}
 use Rattle.base_format.specs.declared.player.StreamPlayer.{StreamPlayer}
@@ -15,7 +16,7 @@ use Rattle.base_targets.specs.declared.Target.{Target}
 use Rattle.base_format.specs.Bytes.{byte, part}
 use Rattle.base_format.specs.Card.{cards_of}
 use Rattle.base_format.specs.Checked.{ok}
-use Rattle.base_format.specs.Operation.{Item, address_width, fill_rules, allowed, item_at}
+use Rattle.base_format.specs.Operation.{address_width, fill_rules, allowed, item_at}
 use Rattle.base_format.specs.Player.{setting_in, card_used, pools_used, bytes_at, item_used, waves_by}
 use Rattle.base_format.specs.Target.{missing}
 use Rattle.base_format.specs.Writes.{upward, writes_with, target_number}

@@ -7,6 +7,7 @@ use native.Mathlib.Nat.{not-suc-le-zero}
 use native.Mathlib.Omega.{arith}
 use borrow.Author.Tests.{ne_eqb}
 use lib.Dec.{eqb, leb, ltb}
+use Rattle.std.specs.Prelude.{Option, Some, None}
 use Rattle.base_format.specs.declared.card.CardRequirement.{CardRequirement}
 use Rattle.base_format.specs.Operation.{address_width}
 use Rattle.play_fast_ranges.specs.Ranges.{starts_of, ends_of}
@@ -20,11 +21,11 @@ Fewer left room r = (r.left ≤ left) × (r.room ≤ room)
 
 module _ (file : List ℕ) (width : ℕ) (starts ends : List ℕ) (limit : ℕ) where
   -- no operation, or no room
-  pub fills_end : (room cursor writes : ℕ) → fills_from file width starts ends limit 0 room cursor writes ≡ stopped_at true cursor 0 room writes
+  pub fills_end : (room cursor writes : ℕ) → fills_from file width starts ends limit 0 room cursor writes ≡ Some (stopped_at cursor 0 room writes)
   unfolding fills_from
   fills_end room cursor writes = refl
 
-  pub fills_full : (left cursor writes : ℕ) → fills_from file width starts ends limit left 0 cursor writes ≡ stopped_at true cursor left 0 writes
+  pub fills_full : (left cursor writes : ℕ) → fills_from file width starts ends limit left 0 cursor writes ≡ Some (stopped_at cursor left 0 writes)
   unfolding fills_from
   fills_full zero cursor writes = refl
   fills_full (suc left) cursor writes = refl
@@ -34,47 +35,54 @@ module _ (file : List ℕ) (width : ℕ) (starts ends : List ℕ) (limit : ℕ) 
     count = count_at file width starts ends limit cursor
 
     -- an operation that is not allowed, or whose writes are all made
-    pub fills_none : leb count writes ≡ true → fills_from file width starts ends limit left room cursor writes ≡ stopped_at false cursor left room writes
+    pub fills_none : leb count writes ≡ true → fills_from file width starts ends limit left room cursor writes ≡ None
     unfolding fills_from
     fills_none e = go left more
       where
-        go : (n : ℕ) → 0 < n → fills_from file width starts ends limit n room cursor writes ≡ stopped_at false cursor n room writes
+        go : (n : ℕ) → 0 < n → fills_from file width starts ends limit n room cursor writes ≡ None
         go zero h = absurd (not-suc-le-zero h)
         go (suc n) h = rw (ne_eqb room 0 (λ none. omega arith), e)
 
     -- an operation, then the others
     pub fills_step : leb count writes ≡ false
         → fills_from file width starts ends limit left room cursor writes
-        ≡ cond (ltb room (count - writes)) (stopped_at true cursor left 0 (writes + room)) (fills_from file width starts ends limit (left - 1) (room - (count - writes)) (cursor + (decoded_at width file cursor).size) 0)
+        ≡ cond (ltb room (count - writes)) (Some (stopped_at cursor left 0 (writes + room))) (fills_from file width starts ends limit (left - 1) (room - (count - writes)) (cursor + (decoded_at width file cursor).size) 0)
     unfolding fills_from
     fills_step e = go left more
       where
         go : (n : ℕ) → 0 < n
             → fills_from file width starts ends limit n room cursor writes
-            ≡ cond (ltb room (count - writes)) (stopped_at true cursor n 0 (writes + room)) (fills_from file width starts ends limit (n - 1) (room - (count - writes)) (cursor + (decoded_at width file cursor).size) 0)
+            ≡ cond (ltb room (count - writes)) (Some (stopped_at cursor n 0 (writes + room))) (fills_from file width starts ends limit (n - 1) (room - (count - writes)) (cursor + (decoded_at width file cursor).size) 0)
         go zero h = absurd (not-suc-le-zero h)
         go (suc n) h =
             let less : suc n - 1 ≡ n = omega arith in
             rw (ne_eqb room 0 (λ none. omega arith), e, less)
 
-  pub from_fewer : (left room cursor writes : ℕ) → Fewer left room (fills_from file width starts ends limit left room cursor writes)
+  pub from_fewer : (left room cursor writes : ℕ) (r : FillsTaken) → Some r ≡ fills_from file width starts ends limit left room cursor writes → Fewer left room r
   unfolding fills_from
-  from_fewer zero room cursor writes = (omega arith, omega arith)
-  from_fewer (suc left) room cursor writes =
+  from_fewer zero room cursor writes r is =
+      let at : r ≡ stopped_at cursor 0 room writes = cc is in
+      rw at (omega arith, omega arith)
+  from_fewer (suc left) room cursor writes r is =
       let rest : ℕ = count_at file width starts ends limit cursor - writes in
-      go (eqb room 0) (leb (count_at file width starts ends limit cursor) writes) (ltb room rest) rest _ (from_fewer left (room - rest) (cursor + (decoded_at width file cursor).size) 0)
+      go (eqb room 0) (leb (count_at file width starts ends limit cursor) writes) (ltb room rest) rest _ (from_fewer left (room - rest) (cursor + (decoded_at width file cursor).size) 0 r) is
     where
-      go : (full none short : Bool) (rest : ℕ) (onward : FillsTaken) → Fewer left (room - rest) onward
-          → Fewer (suc left) room (cond full (stopped_at true cursor (suc left) room writes) (cond none (stopped_at false cursor (suc left) room writes) (cond short (stopped_at true cursor (suc left) 0 (writes + room)) onward)))
-      go true none short rest onward f = (omega arith, omega arith)
-      go false true short rest onward f = (omega arith, omega arith)
-      go false false true rest onward f = (omega arith, omega arith)
-      go false false false rest onward f = (omega (arith, f.0), omega (arith, f.1))
+      go : (full none short : Bool) (rest : ℕ) (onward : Option FillsTaken) → (Some r ≡ onward → Fewer left (room - rest) r)
+          → Some r ≡ cond full (Some (stopped_at cursor (suc left) room writes)) (cond none None (cond short (Some (stopped_at cursor (suc left) 0 (writes + room))) onward))
+          → Fewer (suc left) room r
+      go true none short rest onward f e =
+          let at : r ≡ stopped_at cursor (suc left) room writes = cc e in
+          rw at (omega arith, omega arith)
+      go false true short rest onward f e = cc
+      go false false true rest onward f e =
+          let at : r ≡ stopped_at cursor (suc left) 0 (writes + room) = cc e in
+          rw at (omega arith, omega arith)
+      go false false false rest onward f e = (omega (arith, (f e).0), omega (arith, (f e).1))
 
-pub fills_fewer : (file : List ℕ) (version : ℕ) (cards : List CardRequirement) (limit left room cursor writes : ℕ) (r : FillsTaken) → r ≡ fills_taken file version cards limit left room cursor writes → Fewer left room r
+pub fills_fewer : (file : List ℕ) (version : ℕ) (cards : List CardRequirement) (limit left room cursor writes : ℕ) (r : FillsTaken) → Some r ≡ fills_taken file version cards limit left room cursor writes → Fewer left room r
 unfolding fills_taken
-fills_fewer file version cards limit left room cursor writes r is = rw is (go (leb 2 version && leb version 4))
+fills_fewer file version cards limit left room cursor writes r is = go (leb 2 version && leb version 4) is
   where
-    go : (b : Bool) → Fewer left room (cond b (fills_from file (address_width version) (starts_of version cards) (ends_of version cards) limit left room cursor writes) (stopped_at false cursor left room writes))
-    go true = from_fewer file (address_width version) (starts_of version cards) (ends_of version cards) limit left room cursor writes
-    go false = (omega arith, omega arith)
+    go : (b : Bool) → Some r ≡ cond b (fills_from file (address_width version) (starts_of version cards) (ends_of version cards) limit left room cursor writes) None → Fewer left room r
+    go true e = from_fewer file (address_width version) (starts_of version cards) (ends_of version cards) limit left room cursor writes r e
+    go false e = cc

@@ -1,5 +1,5 @@
 -- A part's operations as far as all of them are WRITEs and FILLs that a table of ranges allows.
-use Rattle.std.specs.Prelude.{ℕ, zero, suc, ◌+◌, ◌*◌, ◌-◌, Bool, true, false, cond, ◌&&◌, List, eqb, leb, ltb, get_or}
+use Rattle.std.specs.Prelude.{ℕ, zero, suc, ◌+◌, ◌*◌, ◌-◌, cond, ◌&&◌, List, eqb, leb, ltb, get_or, Option, Some, None}
 use Rattle.base_format.specs.declared.card.CardRequirement.{CardRequirement}
 use Rattle.base_format.specs.Operation.{address_width}
 use Rattle.base_format.specs.Size.{operation_most}
@@ -10,8 +10,8 @@ use Rattle.bytes_operation.specs.Decoded.{decoded_at}
 use Rattle.play_fast_fill.specs.declared.FillsTaken.{FillsTaken}
 
 -- where the walk stops
-abbrev pub stopped_at : (taken : Bool) → (cursor left room writes : ℕ) → FillsTaken
-stopped_at taken cursor left room writes = record { taken = taken; cursor = cursor; left = left; room = room; writes = writes }
+abbrev pub stopped_at : (cursor left room writes : ℕ) → FillsTaken
+stopped_at cursor left room writes = record { cursor = cursor; left = left; room = room; writes = writes }
 
 -- how many writes an operation makes if it is a WRITE or a FILL that the ranges allow, else 0
 unfoldable pub fill_count : Decoded → (starts ends : List ℕ) → ℕ
@@ -27,18 +27,18 @@ count_at file width starts ends limit at = cond (ltb limit (at + operation_most)
 
 -- so many operations from a cursor, for as many writes as there is room for. Of the first one so many writes are made: where no other
 -- is left of it, it is not taken
-unfoldable pub fills_from : List ℕ → (width : ℕ) → (starts ends : List ℕ) → (limit left room cursor writes : ℕ) → FillsTaken
-fills_from file width starts ends limit zero room cursor writes = stopped_at true cursor 0 room writes
+unfoldable pub fills_from : List ℕ → (width : ℕ) → (starts ends : List ℕ) → (limit left room cursor writes : ℕ) → Option FillsTaken
+fills_from file width starts ends limit zero room cursor writes = Some (stopped_at cursor 0 room writes)
 fills_from file width starts ends limit (suc left) room cursor writes =
     let count = count_at file width starts ends limit cursor in
-    cond (eqb room 0) (stopped_at true cursor (suc left) room writes)
-    (cond (leb count writes) (stopped_at false cursor (suc left) room writes)
-    (cond (ltb room (count - writes)) (stopped_at true cursor (suc left) 0 (writes + room))
+    cond (eqb room 0) (Some (stopped_at cursor (suc left) room writes))
+    (cond (leb count writes) None
+    (cond (ltb room (count - writes)) (Some (stopped_at cursor (suc left) 0 (writes + room)))
     (fills_from file width starts ends limit left (room - (count - writes)) (cursor + (decoded_at width file cursor).size) 0)))
 
 -- with the ranges of a version and its cards. Version 1 has records, and is not taken
-unfoldable pub fills_taken : List ℕ → (version : ℕ) → List CardRequirement → (limit left room cursor writes : ℕ) → FillsTaken
+unfoldable pub fills_taken : List ℕ → (version : ℕ) → List CardRequirement → (limit left room cursor writes : ℕ) → Option FillsTaken
 fills_taken file version cards limit left room cursor writes =
     cond (leb 2 version && leb version 4)
     (fills_from file (address_width version) (starts_of version cards) (ends_of version cards) limit left room cursor writes)
-    (stopped_at false cursor left room writes)
+    None

@@ -5,7 +5,7 @@
 ghost use Rattle.std.specs.Prelude.{◌≡◌, ◌≤◌, length};
 ghost use Rattle.base_format.specs.Card.{cards_of};
 ghost use Rattle.bytes_operation.specs.Decoded.{decoded_operation};
-ghost use Rattle.play_fast_fill.specs.Fills.{fill_count, stopped_at, fills_from, fills_taken};
+ghost use Rattle.play_fast_fill.specs.Fills.{fill_count, fills_from, fills_taken};
 
 use base_format::{CardTable, OPERATION_MOST};
 use bytes_operation::{address_in, address_width, opcode_in, target_in};
@@ -15,26 +15,12 @@ use check_fast_rules::out_of_bulk;
 use play_fast_ranges::{RANGES, address_ranges};
 
 // Where the player stops: the cursor, the operations and the room that are left, and the writes made of the operation at the cursor.
-// `taken` is false where it stops at an operation that is no WRITE or FILL, that is not allowed, or whose writes are all made.
 #[derive(Clone, Copy)]
 pub struct FillsTaken {
-    pub taken: bool,
     pub cursor: usize,
     pub left: u32,
     pub room: usize,
     pub writes: u32,
-}
-
-fn stopped_at(taken: bool, cursor: usize, left: u32, room: usize, writes: u32) -> FillsTaken
-    ensures { result ≡ stopped_at taken cursor left room writes }
-{
-    FillsTaken {
-        taken: taken,
-        cursor: cursor,
-        left: left,
-        room: room,
-        writes: writes,
-    }
 }
 
 // How many writes the operation in 16 bytes makes if it is a WRITE or a FILL that the ranges allow, else 0.
@@ -70,39 +56,54 @@ fn fills_from(
     room: usize,
     cursor: usize,
     writes: u32,
-) -> FillsTaken
+) -> Option<FillsTaken>
     requires { (3 ≤ width) × (width ≤ 4) × (limit ≤ length file.now) }
     ensures { result ≡ fills_from file.now width starts.now ends.now limit left room cursor writes }
 {
     let mut at = cursor;
-    let mut others = left;
     let mut free = room;
     let mut done = writes;
-    while 0 < others {
+    for i in 0..left {
         if free == 0 {
-            return stopped_at(true, at, others, free, done);
+            return Some(FillsTaken {
+                cursor: at,
+                left: left - i,
+                room: 0,
+                writes: done,
+            });
         }
         if passes(limit, at, OPERATION_MOST) {
-            return stopped_at(false, at, others, free, done);
+            return None;
         }
         let bytes = window(file, at);
         let count = fill_count(bytes, width, starts, ends);
         if count <= done {
-            return stopped_at(false, at, others, free, done);
+            return None;
         }
         let rest = count - done;
         if free < rest as usize {
-            return stopped_at(true, at, others, 0, done + free as u32);
+            return Some(FillsTaken {
+                cursor: at,
+                left: left - i,
+                room: 0,
+                writes: done + free as u32,
+            });
         }
         free -= rest as usize;
         at += fill_size_in(bytes, width);
-        others -= 1;
         done = 0;
     }
-    stopped_at(true, at, others, free, done)
+    Some(FillsTaken {
+        cursor: at,
+        left: 0,
+        room: free,
+        writes: done,
+    })
 }
 
-// The operations that are left of a part, for as many writes as there is room for.
+// The operations that are left of a part, for as many writes as there is room for. There is no answer where the walk comes to an
+// operation that is no WRITE or FILL, that is not allowed, or whose writes are all made.
+#[tactic(auto, unfolding(crate::specs::Fills::fills_taken))]
 pub fn take_fills(
     file: &[u8],
     version: u8,
@@ -112,15 +113,15 @@ pub fn take_fills(
     room: usize,
     cursor: usize,
     writes: u32,
-) -> FillsTaken
+) -> Option<FillsTaken>
     requires { limit ≤ length file.now }
     ensures { result ≡ fills_taken file.now version (cards_of cards) limit left room cursor writes }
 {
     if version < 2 {
-        return stopped_at(false, cursor, left, room, writes);
+        return None;
     }
     if 4 < version {
-        return stopped_at(false, cursor, left, room, writes);
+        return None;
     }
     let mut starts: [u32; RANGES] = [0; RANGES];
     let mut ends: [u64; RANGES] = [0; RANGES];

@@ -11,26 +11,24 @@ use base_next_part::operations_left;
 use bytes_read::byte_at;
 use play_fast_fill::take_fills;
 use play_fast_part::PlayingPart;
-use play_fast_step::{Step, no_step, step_to};
+use play_fast_step::{Step, StepWrites, step_to};
 
 // The step of a call with room for so many records. A part whose next operation is a COPY is not taken, before any table is made.
+#[tactic(auto, unfolding(crate::specs::FillStep::fill_step), using(play_fast_fill::proofs::Steps::fills_fewer))]
 pub fn fill_step(
     file: &[u8],
     version: u8,
     cards: CardTable,
     playing: PlayingPart,
     room: usize,
-) -> Step
+) -> Option<Step>
     requires { playing.limit ≤ length file.now }
     ensures { result ≡ fill_step file.now version (cards_of cards) playing room }
 {
-    if playing.none {
-        return no_step();
-    }
     let at = playing.at;
     let opcode = byte_at(file, at.cursor);
     if 1 < opcode {
-        return no_step();
+        return None;
     }
     let left = operations_left(at.operation_index, at.operation_count);
     let fills = take_fills(
@@ -42,18 +40,10 @@ pub fn fill_step(
         room,
         at.cursor,
         at.write_index,
-    );
-    if !fills.taken {
-        return no_step();
-    }
-    let count = room - fills.room;
-    step_to(
-        playing,
-        fills.left,
-        fills.cursor,
-        fills.writes,
-        0,
-        count,
-        count,
-    )
+    )?;
+    let writes = StepWrites::Fills {
+        made: at.write_index,
+        count: room - fills.room,
+    };
+    step_to(playing, fills.left, fills.cursor, fills.writes, writes)
 }

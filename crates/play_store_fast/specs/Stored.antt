@@ -2,10 +2,15 @@
 use Rattle.std.specs.Prelude.{ℕ, List}
 use Rattle.base_format.specs.declared.operation.WriteRecord.{WriteRecord}
 use Rattle.play_fast_step.specs.declared.Step.{Step}
+use Rattle.play_fast_step.specs.declared.StepWrites.{StepWrites}
+use Rattle.play_fast_step.specs.declared.StepWrites.TheVariants.{Plain, Fills}
 use Rattle.play_store_plain.specs.Stored.{writes_stored}
 use Rattle.play_store_fill.specs.Stored.{fills_stored}
 
--- first the plain WRITEs' records, then those of WRITEs and FILLs
+-- the records of plain WRITEs, or of WRITEs and FILLs, from a place on
+abbrev pub stored_from : List ℕ → (version from : ℕ) → StepWrites → List WriteRecord → List WriteRecord
+stored_from file version from (Plain count) run = writes_stored file version from count run
+stored_from file version from (Fills made count) run = fills_stored file version from made count run
+
 unfoldable pub step_stored : List ℕ → (version : ℕ) → Step → List WriteRecord → List WriteRecord
-step_stored file version step run =
-    fills_stored file version step.from step.made step.others (writes_stored file version step.from step.plain run)
+step_stored file version step run = stored_from file version step.from step.writes run

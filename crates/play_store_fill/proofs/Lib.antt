@@ -1,2 +1,1 @@
-pub mod Callees
 pub mod Fills

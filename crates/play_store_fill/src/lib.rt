@@ -1,21 +1,11 @@
 // The lent run: the records of successive WRITEs and FILLs, stored straight from the file.
 #![tactic(auto)]
 
-ghost use Rattle.std.specs.Prelude.{◌≡◌, min};
+ghost use Rattle.std.specs.Prelude.{◌≡◌};
 ghost use Rattle.play_store_fill.specs.Stored.{fills_stored};
 
 use base_format::WriteRecord;
 use play_fast_fill_records::{fill_place, next_fill};
-
-// How many records are stored: as many as the run holds.
-fn fitting(room: usize, count: usize) -> usize
-    ensures { result ≡ min room count }
-{
-    if room < count {
-        return room;
-    }
-    count
-}
 
 // So many records stand at the run's front, or as many as it holds; no other record is touched. The first ones are those of the
 // operation at a place, of which so many are made.
@@ -29,17 +19,13 @@ pub fn store_fills(
 )
     ensures { run.new ≡ fills_stored file.now version from made count run.old }
 {
-    let stop = fitting(run.len(), count);
     let mut place = fill_place(from, made);
-    let mut i = 0;
-    while i < stop {
+    for i in 0..count.min(run.len()) {
         place = next_fill(file, version, place);
-        let record = WriteRecord {
+        run[i] = WriteRecord {
             target: place.target,
             address: place.address,
             value: place.value,
         };
-        run[i] = record;
-        i = i + 1;
     }
 }

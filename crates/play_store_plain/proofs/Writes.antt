@@ -7,6 +7,7 @@ use native.Mathlib.Nat.{suc-mul, mul-le-mul_right}
 use native.Mathlib.Omega.{arith}
 use borrow.Author.Tests.{lt-ltb, le-ltb, ltb-false, leb-true}
 use lib.Dec.{ltb}
+use Rattle.std.specs.Prelude.{Some}
 use lib.ListN.{length, set}
 use Rattle.base_format.specs.declared.operation.WriteRecord.{WriteRecord}
 use Rattle.base_format.proofs.Checks.{and_true}
@@ -49,22 +50,22 @@ module _ (room size version from count : ℕ) where
       )
 
 -- so many plain WRITEs have 16 bytes from the last one on before the end
-behind_room : (version : ℕ) (file : List ℕ) (end count at : ℕ) → 0 < plain_behind version file end (suc count) at → at + count * plain_size version + 16 ≤ end
+behind_room : (version : ℕ) (file : List ℕ) (end count at behind : ℕ) → Some behind ≡ plain_behind version file end (suc count) at → at + count * plain_size version + 16 ≤ end
 unfolding plain_at
-behind_room version file end zero at some = omega (arith, leb-true (at + 16) end (and_true _ _ (all_plain version file end zero at some).0).0)
-behind_room version file end (suc count) at some =
-    omega (arith, behind_room version file end count (at + plain_size version) (rw (all_plain version file end (suc count) at some).1 at some), suc-mul count (plain_size version))
+behind_room version file end zero at behind some = omega (arith, leb-true (at + 16) end (and_true _ _ (all_plain version file end zero at behind some).0).0)
+behind_room version file end (suc count) at behind some =
+    omega (arith, behind_room version file end count (at + plain_size version) behind (all_plain version file end (suc count) at behind some).1, suc-mul count (plain_size version))
 
 -- where so many are plain, all of them are stored
-pub storable_all : (version : ℕ) (file : List ℕ) (room end from count : ℕ) → end ≤ length file → count ≤ room → 0 < plain_behind version file end count from → storable room (length file) version from count ≡ count
+pub storable_all : (version : ℕ) (file : List ℕ) (room end from count behind : ℕ) → end ≤ length file → count ≤ room → Some behind ≡ plain_behind version file end count from → storable room (length file) version from count ≡ count
 unfolding storable
-storable_all version file room end from zero within inside some = go (ltb room zero || ltb (length file + plain_size version) (from + zero * plain_size version + 16))
+storable_all version file room end from zero behind within inside some = go (ltb room zero || ltb (length file + plain_size version) (from + zero * plain_size version + 16))
   where
     go : (b : Bool) → ◌≡◌ {A = ℕ} (cond b 0 0) 0
     go true = refl
     go false = refl
-storable_all version file room end from (suc count) within inside some =
-    storable_fit room (length file) version from (suc count) inside (omega (arith, within, behind_room version file end count from some, suc-mul count (plain_size version)))
+storable_all version file room end from (suc count) behind within inside some =
+    storable_fit room (length file) version from (suc count) inside (omega (arith, within, behind_room version file end count from behind some, suc-mul count (plain_size version)))
 
 -- THE RUN AFTER SOME TURNS
 

@@ -57,10 +57,7 @@ pub fn store_writes(run: &mut [WriteRecord], file: &[u8], version: u8, from: usi
     ensures { run.new ≡ writes_stored file.now version from count run.old }
 {
     let stop = storable(run.len(), file.len(), version, from, count);
-    let mut i = 0;
-    while i < stop {
-        let record = nth_write(file, version, from, i);
-        run[i] = record;
-        i = i + 1;
+    for i in 0..stop {
+        run[i] = nth_write(file, version, from, i);
     }
 }
