@@ -2,7 +2,7 @@
 use Prim.Native.Nat.{ℕ, ◌≤◌}
 use mathlib.Core.Bool.{Bool, true, false, cond}
 use mathlib.Core.List.{List}
-use mathlib.Core.Path.{◌≡◌, refl, sym, ap, ◌∙◌}
+use mathlib.Core.Path.{◌≡◌, refl, sym}
 use lib.ListN.{length}
 use Rattle.std.specs.Prelude.{Option, Some, None, is_some}
 use Rattle.std.specs.Option.{option_and_then}
@@ -12,7 +12,7 @@ use Rattle.base_format.specs.declared.operation.WriteRecord.{WriteRecord}
 use Rattle.base_format.specs.declared.player.Progress.{Progress}
 use Rattle.base_format.specs.declared.player.StreamPlayer.{StreamPlayer}
 use Rattle.base_format.specs.Card.{cards_of}
-use Rattle.base_format.specs.Checked.{Checked, ok}
+use Rattle.base_format.specs.Checked.{ok}
 use Rattle.base_format.specs.Player.{Played, call}
 use Rattle.base_format.specs.State.{moved}
 use Rattle.play_fast_part.specs.declared.PlayingPart.{PlayingPart}
@@ -25,10 +25,10 @@ use Rattle.play_fast_part.proofs.Going.{playing_part_bounds}
 use Rattle.play_fast_plain.specs.Plain.{plain_writes}
 use Rattle.play_fast_plain_step.specs.PlainStep.{plain_step}
 use Rattle.play_fast_plain_step.proofs.Called.{plain_call}
-use Rattle.play_fast_plain_step.proofs.Takes.{Plainly, plain_plainly}
+use Rattle.play_fast_plain_step.proofs.Takes.{plain_plainly}
 use Rattle.play_fast_fill_records.specs.Records.{fill_place, fill_records}
 use Rattle.play_fast_fill_step.specs.FillStep.{fill_step}
-use Rattle.play_fast_fill_step.proofs.Called.{Filling, fill_filling, fill_call}
+use Rattle.play_fast_fill_step.proofs.Called.{fill_filling, fill_call}
 use Rattle.play_fast.specs.Step.{step_on, step_of}
 
 -- the limit of the part that a call goes on with stands in the file

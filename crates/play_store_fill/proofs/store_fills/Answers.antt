@@ -13,7 +13,7 @@ pub loop-i-preserved : goal.loop-i-preserved
 loop-i-preserved c =
     let a = c.args in
     let next : c.next_fill-place.result ≡ placed a.file.now a.version a.from a.made (c.loop-i.i + 1) =
-        c.next_fill-place.ensures ∙ rw c.loop-i.invariant.0 (placed_next a.file.now a.version a.from a.made c.loop-i.i) in
+    c.next_fill-place.ensures ∙ rw c.loop-i.invariant.0 (placed_next a.file.now a.version a.from a.made c.loop-i.i) in
     (next, rw (next, c.loop-i.invariant.1) (pasted_next a.file.now a.version a.from a.made a.count a.run.now c.loop-i.i (omega (arith, c.min-i-end.ensures))))
 
 pub returns : goal.returns

@@ -1,5 +1,5 @@
 -- `play_store_plain::store_writes` meets its contract: each turn stores the next write.
-use Rattle.std.proofs.Common.{arith, sym, ◌∙◌, ◌≡◌, ◌≤◌, length}
+use Rattle.std.proofs.Common.{arith, ◌∙◌, ◌≡◌, ◌≤◌, length}
 use Rattle.play_store_plain.specs.Stored.{storable}
 use Rattle.play_store_plain.proofs.Writes.{storable_fits, pasted_next, stored_is}
 use Rattle.play_store_plain.proofs.store_writes.Goals as goal
