@@ -1,5 +1,5 @@
 -- One turn of each loop.
-use Rattle.std.proofs.Common.{◌≡◌, ℕ, suc, ◌+◌, ◌-◌, ◌<◌, ◌≤◌, true, false, eqb, List, arith}
+use Rattle.std.proofs.Common.{◌≡◌, ◌≢◌, ℕ, zero, suc, ◌+◌, ◌-◌, ◌<◌, ◌≤◌, List, refl, arith, eq-eqb, ne_eqb}
 use Rattle.base_format.specs.declared.player.StreamPlayer.{StreamPlayer}
 use Rattle.play_segments.specs.declared.place.Place.{Place}
 use Rattle.play_segments.specs.Turn.{turn}
@@ -22,22 +22,21 @@ module _ (file : List ℕ) where
       rw none
 
   module _ (state : StreamPlayer) where
-    pub turns_step : (turns : ℕ) (place : Place) (sum : ℕ) → 0 < turns → eqb place.left 0 ≡ false
-        → mixed_in turns file state place sum ≡ mixed_in (turns - 1) file state (turn file state place).place (segment_mixed file (turn file state place).segment (turn file state place).at sum)
+    pub turns_step : (turns i : ℕ) (place : Place) (sum : ℕ) → i < turns → place.left ≢ 0
+        → mixed_in (turns - i) file state place sum
+        ≡ mixed_in (turns - (i + 1)) file state (turn file state place).place (segment_mixed file (turn file state place).segment (turn file state place).at sum)
     unfolding mixed_in
-    turns_step turns place sum h some =
-        let one : turns ≡ suc (turns - 1) = omega arith in
-        let less : suc (turns - 1) - 1 ≡ turns - 1 = omega arith in
-        rw (one, less, some)
+    turns_step turns i place sum h some =
+        let one : turns - i ≡ suc (turns - (i + 1)) = omega arith in
+        rw (one, ne_eqb _ _ some)
 
-    pub turns_end : (turns : ℕ) (place : Place) (sum : ℕ) → 0 < turns → eqb place.left 0 ≡ true → mixed_in turns file state place sum ≡ sum
+    pub turns_end : (turns : ℕ) (place : Place) (sum : ℕ) → place.left ≡ 0 → mixed_in turns file state place sum ≡ sum
     unfolding mixed_in
-    turns_end turns place sum h none =
-        let one : turns ≡ suc (turns - 1) = omega arith in
-        rw (one, none)
+    turns_end zero place sum none = refl
+    turns_end (suc turns) place sum none = rw (eq-eqb _ _ none)
 
-    pub turns_over : (turns : ℕ) (place : Place) (sum : ℕ) → turns ≤ 0 → mixed_in turns file state place sum ≡ sum
+    pub turns_over : (turns i : ℕ) (place : Place) (sum : ℕ) → turns ≤ i → mixed_in (turns - i) file state place sum ≡ sum
     unfolding mixed_in
-    turns_over turns place sum h =
-        let none : turns ≡ 0 = omega arith in
+    turns_over turns i place sum h =
+        let none : turns - i ≡ 0 = omega arith in
         rw none

@@ -26,13 +26,15 @@ fn byte_behind(file: &[u8], from: usize, i: usize) -> u8
 }
 
 // The value of a segment's record.
+#[tactic(auto, unfolding(crate::specs::Mixed::value_at))]
 fn value_of(file: &[u8], segment: Segment, i: usize) -> u8
     ensures { result ≡ value_at file.now segment i }
 {
     if segment.copied {
-        return byte_behind(file, segment.from, i);
+        byte_behind(file, segment.from, i)
+    } else {
+        segment.value
     }
-    segment.value
 }
 
 // The number behind a record: its place in the run, its target, its address and its value.
@@ -45,6 +47,7 @@ fn mix_record(sum: u32, place: u32, target: u8, address: u32, value: u8) -> u32
 }
 
 // The number behind the records of a segment. No run of the list is longer than 65,535 records.
+#[tactic(auto, unfolding(crate::specs::Mixed::segment_mixed), using(crate::proofs::Steps::records_step, crate::proofs::Steps::records_end))]
 fn mix_segment(sum: u32, at: usize, file: &[u8], segment: Segment) -> u32
     ensures { result ≡ segment_mixed file.now segment at sum }
 {
@@ -54,33 +57,30 @@ fn mix_segment(sum: u32, at: usize, file: &[u8], segment: Segment) -> u32
     let mut mixed = sum;
     let mut place = at as u32;
     let mut address = segment.address;
-    let mut i = 0;
-    while i < segment.count {
+    for i in 0..segment.count {
         let value = value_of(file, segment, i);
         mixed = mix_record(mixed, place, segment.target, address, value);
         place = place.wrapping_add(1);
         address = address.wrapping_add(1);
-        i = i + 1;
     }
     mixed
 }
 
 // The number of all records of a call that takes so many. Each segment leaves fewer operations or closing writes to do.
+#[tactic(auto, unfolding(crate::specs::Mixed::mixed_call), using(crate::proofs::Steps::turns_step, crate::proofs::Steps::turns_end, crate::proofs::Steps::turns_over))]
 pub fn mix_call(file: &[u8], state: StreamPlayer, count: usize, room: usize) -> u32
     ensures { result ≡ mixed_call file.now state count room }
 {
     let mut mixed = BASIS;
     let mut place = first_place(file, state, count, room);
-    let mut turns = place.left;
-    while 0 < turns {
+    for _turn in 0..place.left {
         let over = place.left == 0;
         if over {
-            return mixed;
+            break;
         }
         let turn = next_segment(file, state, place);
         mixed = mix_segment(mixed, turn.at, file, turn.segment);
         place = turn.place;
-        turns -= 1;
     }
     mixed
 }
