@@ -1,26 +1,25 @@
 -- What is known of a file that must have a version, by what its check says.
 use Prim.Native.Nat.{ℕ}
-use mathlib.Core.Path.{◌≡◌, refl, sym, ap, ap₂, ◌∙◌}
+use mathlib.Core.Path.{◌≡◌, refl, sym, ap₂}
+use mathlib.Core.Bool.{not}
 use mathlib.Core.List.{List}
-use borrow.Author.Tests.{ne_eqb}
+use lib.Dec.{eqb}
 use Rattle.base_format.specs.declared.header.Header.{Header}
-use Rattle.base_format.specs.Checked.{Checked, ok, refused, mapped}
+use Rattle.base_format.specs.Checked.{Checked, ok, refused, refuse, mapped, ◌>>◌}
 use Rattle.base_format.specs.Compare.{read_version}
 use Rattle.base_format.specs.Header.{header_of}
 use Rattle.base_format.specs.Stream.{Stream, read}
 use Rattle.base_format.proofs.Accepted.{accepted}
 use Rattle.base_format.proofs.Checks.{ok_is, refused_not_ok}
-use Rattle.base_format.proofs.Compared.{version_read, reads_version}
-use Rattle.check_version.specs.declared.VersionCheck.{VersionCheck}
-use Rattle.check_version.specs.Answer.{version_check_of, version_header}
+use Rattle.base_format.proofs.Compared.{version_read}
+use Rattle.base_format.proofs.InTurn.{mapped_then}
+use Rattle.check_version.specs.Answer.{version_header}
 
-pub version_other : (version : ℕ) (file : List ℕ) (s : Stream) → read file ≡ ok s → ((header_of file).version ≡ version → ⊥) → version_header version file ≡ refused 21 0
+-- an accepted file is refused by its header's version alone
+pub version_accepted : (version : ℕ) (file : List ℕ) (s : Stream) → read file ≡ ok s
+    → version_header version file ≡ (refuse 21 0 (not (eqb (header_of file).version version)) >> ok (header_of file))
 unfolding read_version
-version_other version file s e wrong = rw (e, ne_eqb s.version version (λ p. wrong (sym (accepted file s e).0.version ∙ p)))
-
-pub version_found : (version : ℕ) (file : List ℕ) (s : Stream) → read file ≡ ok s → (header_of file).version ≡ version → version_header version file ≡ ok (header_of file)
-version_found version file s e same =
-    ap (mapped (λ (s : Stream). header_of file)) (reads_version version file s e ((accepted file s e).0.version ∙ same))
+version_accepted version file s e = rw (e, (accepted file s e).0.version) (mapped_then _ _ _)
 
 pub version_none : (version : ℕ) (file : List ℕ) (number place : ℕ) → read file ≡ refused number place → version_header version file ≡ refused number place
 unfolding read_version
@@ -53,7 +52,3 @@ gone version file number place e = go (read_version version file) e
         let number_is : n ≡ number = cc in
         let place_is : p ≡ place = cc in
         ap₂ (λ (a b : ℕ). refused a b) number_is place_is
-
--- what a check gave, by the arm that was taken
-pub told : {answer arm : VersionCheck} {is : Checked Header} → version_check_of answer ≡ is → answer ≡ arm → is ≡ version_check_of arm
-told e p = sym e ∙ ap version_check_of p

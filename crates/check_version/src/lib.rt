@@ -2,37 +2,19 @@
 #![tactic(auto)]
 
 ghost use Rattle.std.specs.Prelude.{◌≡◌};
-ghost use Rattle.check_version.specs.Answer.{version_check_of, version_header};
+ghost use Rattle.base_format.specs.Rule.{answer_of};
+ghost use Rattle.check_version.specs.Answer.{version_header};
 
 use base_format::{Header, Refusal, Rule};
-use check_file::{FileAnswer, check_file};
+use base_refusal::refuse;
+use check_file::check_file;
 
-// An accepted file's header, or the refusal.
-#[derive(Clone, Copy)]
-pub enum VersionCheck {
-    Accepted(Header),
-    Refused(Refusal),
-}
-
-// The check of a file, and 21 where its version is another.
-pub fn check_version(file: &[u8], version: u8) -> VersionCheck
-    ensures { version_check_of result ≡ version_header version file.now }
+// An accepted file's header; or the refusal of the file, and 21 where its version is another.
+pub fn check_version(file: &[u8], version: u8) -> Result<Header, Refusal>
+    ensures { answer_of result ≡ version_header version file.now }
 {
-    let checked = check_file(file);
-    let answer = checked.answer;
-    match answer {
-        FileAnswer::Accepted {
-            header,
-            uses_si22: _,
-        } => {
-            if header.version != version {
-                return VersionCheck::Refused(Refusal {
-                    rule: Rule::OtherVersion,
-                    place: 0,
-                });
-            }
-            VersionCheck::Accepted(header)
-        }
-        FileAnswer::Refused(refusal) => VersionCheck::Refused(refusal),
-    }
+    let checked = check_file(file)?;
+    let header = checked.header;
+    refuse(Rule::OtherVersion, 0, header.version != version)?;
+    Ok(header)
 }
