@@ -15,7 +15,7 @@ fn padding(byte: u8, place: usize, id_length: u8) -> u8
 }
 
 // Whether a byte of the name behind its length is not 0. All bytes are read, without a branch, so that the compiler takes them at once.
-#[tactic(auto, using(crate::proofs::Zeros::padding_first, crate::proofs::Zeros::padding_step, crate::proofs::Zeros::padding_last))]
+#[tactic(auto, using(crate::proofs::Zeros::padding_step))]
 fn padding_wrong(id: [u8; 16], id_length: u8) -> bool
     ensures { result ≡ not (all_zero (drop id_length id)) }
 {
