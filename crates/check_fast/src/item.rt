@@ -19,6 +19,7 @@ pub struct Quick {
 }
 
 // Whether a record is passed.
+#[tactic(auto, unfolding(crate::specs::Passes::record_passes, crate::specs::Passes::write_passes))]
 pub fn quick_record(table: &LimitTable, item: Decoded) -> bool
     ensures { result ≡ record_passes table.now item }
 {
@@ -30,6 +31,7 @@ pub fn quick_record(table: &LimitTable, item: Decoded) -> bool
     (item.address as u64) < limits.write_end
 }
 
+#[tactic(auto, unfolding(crate::specs::Passes::write_passes))]
 fn quick_write(bytes: &[u8], width: usize, limits: TargetLimits) -> bool
     requires { (3 ≤ width) × (width ≤ 4) }
     ensures { result ≡ write_passes limits (decoded_operation width bytes.now) }
@@ -37,18 +39,17 @@ fn quick_write(bytes: &[u8], width: usize, limits: TargetLimits) -> bool
     (address_in(bytes, width) as u64) < limits.write_end
 }
 
+#[tactic(auto, unfolding(crate::specs::Passes::fill_passes), using(bytes_operation_known::proofs::Laws::fill_length_lem))]
 fn quick_fill(bytes: &[u8], width: usize, limits: TargetLimits) -> bool
     requires { (3 ≤ width) × (width ≤ 4) × (byte bytes.now 0 ≡ 1) }
     ensures { result ≡ fill_passes limits (decoded_operation width bytes.now) }
 {
     let address = address_in(bytes, width);
     let length = fill_length_in(bytes, width);
-    if out_of_range(address, length, limits.bulk_start, limits.bulk_end) {
-        return false;
-    }
-    true
+    !out_of_range(address, length, limits.bulk_start, limits.bulk_end)
 }
 
+#[tactic(auto, unfolding(crate::specs::Passes::copy_passes), using(bytes_operation_known::proofs::Laws::copy_pool_lem, bytes_operation_known::proofs::Laws::copy_source_lem, bytes_operation_known::proofs::Laws::copy_length_lem))]
 fn quick_copy(
     file: &[u8],
     bytes: &[u8],
@@ -79,6 +80,7 @@ fn quick_copy(
 
 // Whether an operation is passed. Each opcode has a way of its own that reads only its fields, and gives its size. Most operations are
 // WRITEs: they are told first, and their limit is read apart, so that the compiler makes no choice of three of it.
+#[tactic(auto, unfolding(crate::specs::Passes::quick_operation, crate::specs::Passes::item_passes, bytes_operation::specs::Decoded::decoded_operation))]
 pub fn quick_operation(
     file: &[u8],
     bytes: &[u8],

@@ -5,4 +5,4 @@
 mod item;
 mod run;
 
-pub use run::{QuickRun, either, quick_run};
+pub use run::{QuickRun, quick_run};

@@ -1,12 +1,12 @@
 // So many items in a row, as far as each is passed.
-ghost use Rattle.std.specs.Prelude.{◌≡◌, false, ◌||◌, ◌+◌, ◌≤◌, length};
+ghost use Rattle.std.specs.Prelude.{◌≡◌, false, ◌+◌, ◌≤◌, length};
 ghost use Rattle.base_format.specs.Size.{operation_most};
 ghost use Rattle.check_fast.specs.Run.{records_run, operations_from, quick_run};
 
 use crate::item::{quick_operation, quick_record};
 use base_format::OPERATION_MOST;
 use bytes_operation::{address_width, decode_record, target_in};
-use bytes_read::{smaller, window};
+use bytes_read::window;
 use check_fast_limits::LimitTable;
 
 // Where a run of items stops, how many items are left there, and whether one before has target 11.
@@ -17,16 +17,6 @@ pub struct QuickRun {
     pub si22: bool,
 }
 
-// Whether one of two runs has target 11.
-pub fn either(a: bool, b: bool) -> bool
-    ensures { result ≡ (a || b) }
-{
-    if a {
-        return true;
-    }
-    b
-}
-
 // The records of version 1 that stand at places up to `last`, where the bytes are that hold every item. No record that is passed has
 // target 11.
 fn records_run(file: &[u8], table: &LimitTable, last: usize, count: u32, start: usize) -> QuickRun
@@ -34,26 +24,24 @@ fn records_run(file: &[u8], table: &LimitTable, last: usize, count: u32, start: 
     ensures { result ≡ records_run file.now table.now last count start }
 {
     let mut at = start;
-    let mut left = count;
-    while 0 < left {
+    for i in 0..count {
         if last < at {
             return QuickRun {
                 at,
-                left,
+                left: count - i,
                 si22: false,
             };
         }
         let item = decode_record(window(file, at));
-        if quick_record(table, item) {
-            at += item.size;
-            left -= 1;
-        } else {
+        let quick = quick_record(table, item);
+        if !quick {
             return QuickRun {
                 at,
-                left,
+                left: count - i,
                 si22: false,
             };
         }
+        at += item.size;
     }
     QuickRun {
         at,
@@ -77,26 +65,32 @@ fn operations_run(
     ensures { result ≡ operations_from width file.now pools directory table.now last count start false }
 {
     let mut at = start;
-    let mut left = count;
     let mut si22 = false;
-    while 0 < left {
+    for i in 0..count {
         if last < at {
-            return QuickRun { at, left, si22 };
+            return QuickRun {
+                at,
+                left: count - i,
+                si22,
+            };
         }
         let bytes = window(file, at);
         let quick = quick_operation(file, bytes, width, pools, directory, table);
-        if quick.passed {
-            si22 = either(si22, target_in(bytes) == 11);
-            at += quick.size;
-            left -= 1;
-        } else {
-            return QuickRun { at, left, si22 };
+        if !quick.passed {
+            return QuickRun {
+                at,
+                left: count - i,
+                si22,
+            };
         }
+        si22 |= target_in(bytes) == 11;
+        at += quick.size;
     }
     QuickRun { at, left: 0, si22 }
 }
 
 // So many items of a file from a place, up to a limit. What lies behind the last place with 16 bytes is not passed.
+#[tactic(auto, unfolding(crate::specs::Run::quick_run))]
 pub fn quick_run(
     file: &[u8],
     version: u8,
@@ -109,7 +103,7 @@ pub fn quick_run(
 ) -> QuickRun
     ensures { result ≡ quick_run version file.now pools directory table.now limit count start }
 {
-    let end = smaller(limit, file.len());
+    let end = limit.min(file.len());
     if end < OPERATION_MOST {
         return QuickRun {
             at: start,
