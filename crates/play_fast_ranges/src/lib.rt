@@ -10,12 +10,12 @@ ghost use Rattle.play_fast_ranges.specs.Ranges.{write_top, card_target, starts_b
 use base_format::{CardRequirement, CardTable, Target};
 use check_card::one_card_wrong;
 use check_fast_limits::bulk_end;
-use check_target::held;
 
 // An entry for each opcode, 0 or 1, and each target, 0 to 15.
 pub const RANGES: usize = 32;
 
 // One more than the greatest sum of the address and the count of a WRITE, which is 1; 0 for a missing target.
+#[tactic(auto, unfolding(crate::specs::Ranges::write_top))]
 fn write_top(target: Target) -> u64
     ensures { result ≡ write_top target }
 {
@@ -54,6 +54,7 @@ fn put_plain(version: u8, starts: &mut [u32; RANGES], ends: &mut [u64; RANGES])
 }
 
 // The target of a card's slot: missing where the card breaks a rule that speaks of one card.
+#[tactic(auto, unfolding(crate::specs::Ranges::card_target))]
 fn card_target(card: CardRequirement) -> Target
     ensures { result ≡ card_target card }
 {
@@ -85,7 +86,7 @@ fn cards_in(version: u8, count: usize) -> usize
     if version != 4 {
         return 0;
     }
-    held(count)
+    count.min(8)
 }
 
 // Fills the arrays, whose entries are 0, for a version with its cards. The cards are taken from the last to the first, so that of two
