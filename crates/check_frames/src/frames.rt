@@ -16,6 +16,7 @@ use check_fast_limits::LimitTable;
 use check_items::check_operations;
 
 // The items of a frame that are passed quickly. A frame that has none costs no call.
+#[tactic(auto, using(check_fast::proofs::Ran::quick_none))]
 fn frame_run(
     file: &[u8],
     version: u8,
@@ -64,6 +65,7 @@ pub fn check_frames(
     let mut at = header.frame_start;
     let mut left = header.frame_count;
     let mut seen = si22;
+    // A turn passes all empty frames and one more, so that no range counts the turns.
     while 0 < left {
         let next = skip_empty(file, left, at);
         refuse(Rule::CutOff, next.at, count_cut_off(file, next.at))?;
