@@ -1,8 +1,9 @@
-// The records of a vsync call as one number, so that few bytes are stored for a call. The records are those that `store_call` stores,
-// made by the same two functions.
+// The records of a vsync call as one number, so that few bytes are stored for a call, and its answers as another. The records are those
+// that `store_call` stores, made by the same two functions.
 #![tactic(auto)]
 
-ghost use Rattle.std.specs.Prelude.{◌≡◌, ◌+◌};
+ghost use Rattle.std.specs.Prelude.{◌≡◌, ◌+◌, ◌*◌};
+ghost use Rattle.std.specs.Int.{from_bool};
 ghost use Rattle.base_format.specs.Bytes.{byte};
 ghost use Rattle.test_records.specs.Mixed.{record_mixed, value_at, segment_mixed, mixed_call};
 
@@ -83,4 +84,11 @@ pub fn mix_call(file: &[u8], state: StreamPlayer, count: usize, room: usize) -> 
         place = turn.place;
     }
     mixed
+}
+
+// A call's answers as one number: 1 for refused, 2 for a complete vsync, 4 for a finished player.
+pub fn flags(refused: bool, complete: bool, finished: bool) -> u8
+    ensures { result ≡ from_bool refused + 2 * from_bool complete + 4 * from_bool finished }
+{
+    refused as u8 + 2 * (complete as u8) + 4 * (finished as u8)
 }
