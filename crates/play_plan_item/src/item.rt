@@ -1,29 +1,25 @@
 // One operation that writes are taken from.
 ghost use Rattle.std.specs.Prelude.{◌≡◌};
-ghost use Rattle.play_plan_item.specs.Used.{item_used_of, item_used_by};
+ghost use Rattle.play_plan_item.specs.Used.{or_25, item_used_by};
 
 use crate::rules::use_wrong;
-use base_format::{CardTable, Header, Operation};
-use check_items::{OperationRead, read_item};
+use base_format::{CardTable, Header, Item};
+use check_items::read_item;
 
-// An operation and the place behind it, or refusal 25.
-#[derive(Clone, Copy)]
-pub enum ItemUsed {
-    Used { operation: Operation, next: usize },
-    Refused,
-}
-
-// The operation at a place, with the limit that rule 14 names.
-pub fn item_used(file: &[u8], header: Header, cards: CardTable, limit: usize, at: usize) -> ItemUsed
-    ensures { item_used_of result ≡ item_used_by header cards file.now limit at }
+// The operation at a place, with the limit that rule 14 names; none is refusal 25.
+#[tactic(auto, using(base_format::proofs::As25::as25_bind, base_format::proofs::As25::as25_then))]
+pub fn item_used(
+    file: &[u8],
+    header: Header,
+    cards: CardTable,
+    limit: usize,
+    at: usize,
+) -> Option<Item>
+    ensures { or_25 result ≡ item_used_by header cards file.now limit at }
 {
-    match read_item(file, header, cards, limit, at) {
-        OperationRead::Found { operation, next } => {
-            if use_wrong(file, header, cards, operation) {
-                return ItemUsed::Refused;
-            }
-            ItemUsed::Used { operation, next }
-        }
-        OperationRead::Refused(_) => ItemUsed::Refused,
+    let item = read_item(file, header, cards, limit, at).ok()?;
+    if use_wrong(file, header, cards, item.operation) {
+        return None;
     }
+    Some(item)
 }

@@ -5,4 +5,4 @@
 mod item;
 mod rules;
 
-pub use item::{ItemUsed, item_used};
+pub use item::item_used;

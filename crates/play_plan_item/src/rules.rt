@@ -13,17 +13,10 @@ use check_pools::read_pool;
 fn slot_wrong(table: CardTable, slot: u8) -> bool
     ensures { result ≡ slot_wrong (cards_of table) slot }
 {
-    let count = table.count;
-    let mut i = 0;
-    while i < 8 {
-        if count <= i {
-            return false;
-        }
-        let card = table.cards[i];
+    for card in &table.cards[..table.count.min(8)] {
         if card.slot == slot {
-            return one_card_wrong(card);
+            return one_card_wrong(*card);
         }
-        i += 1;
     }
     false
 }
@@ -32,19 +25,11 @@ fn slot_wrong(table: CardTable, slot: u8) -> bool
 fn target_card_wrong(version: u8, cards: CardTable, target: u8) -> bool
     ensures { result ≡ card_of_target version (cards_of cards) target }
 {
-    if version != 4 {
-        return false;
-    }
-    if target < 3 {
-        return false;
-    }
-    if 10 < target {
-        return false;
-    }
-    slot_wrong(cards, Target::slot(target))
+    version == 4 && 3 <= target && target <= 10 && slot_wrong(cards, Target::slot(target))
 }
 
 // Whether the directory or the pool passes the file's end.
+#[tactic(auto, unfolding(base_format::specs::Player::pool_used), using(base_format::proofs::As25::as25_refuse))]
 fn pool_past(file: &[u8], directory: u32, pools: u32, id: u16) -> bool
     ensures { refuse 25 0 result ≡ as25 (pool_used file.now directory pools id) }
 {
@@ -56,33 +41,17 @@ fn pool_past(file: &[u8], directory: u32, pools: u32, id: u16) -> bool
 }
 
 // Whether the card or the pool of an operation breaks a rule.
+#[tactic(auto, unfolding(base_format::specs::Player::card_used, base_format::specs::Player::pools_used), using(base_format::proofs::As25::as25_refuse, base_format::proofs::As25::as25_then, base_format::proofs::As25::refuse_last))]
 pub fn use_wrong(file: &[u8], header: Header, cards: CardTable, operation: Operation) -> bool
     ensures { refuse 25 0 result ≡ as25 (used_by header cards file.now operation) }
 {
-    let version = header.version;
     match operation {
-        Operation::Write {
-            target,
-            address: _,
-            value: _,
-        } => target_card_wrong(version, cards, target),
-        Operation::Fill {
-            target,
-            address: _,
-            length: _,
-            value: _,
-        } => target_card_wrong(version, cards, target),
-        Operation::Copy {
-            target,
-            address: _,
-            pool,
-            source: _,
-            length: _,
-        } => {
-            if target_card_wrong(version, cards, target) {
-                return true;
-            }
-            pool_past(file, header.directory_offset, header.pool_count, pool)
+        Operation::Write { target, .. } | Operation::Fill { target, .. } => {
+            target_card_wrong(header.version, cards, target)
+        }
+        Operation::Copy { target, pool, .. } => {
+            target_card_wrong(header.version, cards, target)
+                || pool_past(file, header.directory_offset, header.pool_count, pool)
         }
     }
 }

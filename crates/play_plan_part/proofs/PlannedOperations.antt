@@ -11,18 +11,19 @@ use Rattle.base_format.specs.Checked.{Checked, ok, refused, refuse, ◌>>=◌, �
 use Rattle.play_laws.specs.Plan.{count_of, planned_operations}
 use Rattle.base_format.specs.Player.{item_used, placed, as25}
 use Rattle.play_laws.proofs.PlannedOperations.{planned_operations_step}
-use Rattle.play_plan_part.specs.Told.{waves_now, Start, item_start}
+use Rattle.play_plan_part.specs.Told.{waves_now, item_start}
+use Rattle.play_plan_part.specs.declared.item.ItemStart.{ItemStart}
 use Rattle.play_plan_item.specs.Used.{item_used_by}
 use Rattle.play_plan_item.proofs.Sheet.{used_as25}
 
 -- what is left to do once an operation is begun
-abbrev pub behind_start : StreamPlayer → List ℕ → (limit left room : ℕ) → Progress → Start → Checked (ℕ × Progress)
+abbrev pub behind_start : StreamPlayer → List ℕ → (limit left room : ℕ) → Progress → ItemStart → Checked (ℕ × Progress)
 behind_start state file limit left room p s =
     cond (ltb room s.rest) (ok (0, placed p p.cursor p.operation_index (p.write_index + room) s.waves))
     (as25 (planned_operations state file limit (left - 1) (room - s.rest) (placed p s.next (p.operation_index + 1) 0 s.waves)))
 
 -- the start of an item that is used
-abbrev start_of : StreamPlayer → List ℕ → Progress → Item → Start
+abbrev start_of : StreamPlayer → List ℕ → Progress → Item → ItemStart
 start_of state file p item =
     record { rest = count_of item.operation - p.write_index; next = item.next; waves = waves_now file state.header.directory_offset item.operation p.write_index p.wave_sources }
 

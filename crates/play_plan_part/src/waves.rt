@@ -12,24 +12,8 @@ pub fn count_of(operation: Operation) -> u32
     ensures { result ≡ count_of operation }
 {
     match operation {
-        Operation::Write {
-            target: _,
-            address: _,
-            value: _,
-        } => 1,
-        Operation::Fill {
-            target: _,
-            address: _,
-            length,
-            value: _,
-        } => length,
-        Operation::Copy {
-            target: _,
-            address: _,
-            pool: _,
-            source: _,
-            length,
-        } => length,
+        Operation::Write { .. } => 1,
+        Operation::Fill { length, .. } | Operation::Copy { length, .. } => length,
     }
 }
 
@@ -50,6 +34,7 @@ fn waves_with(waves: [WaveSource; 16], target: u8, address: u32, id: u16) -> [Wa
 }
 
 // The wave sources once an operation's first write is made: a COPY of a wave sets one.
+#[tactic(auto, unfolding(base_format::specs::Player::waves_by))]
 fn waves_by(
     file: &[u8],
     directory: u32,
@@ -59,23 +44,12 @@ fn waves_by(
     ensures { result ≡ waves_by file.now directory operation waves }
 {
     match operation {
-        Operation::Write {
-            target: _,
-            address: _,
-            value: _,
-        } => waves,
-        Operation::Fill {
-            target: _,
-            address: _,
-            length: _,
-            value: _,
-        } => waves,
+        Operation::Write { .. } | Operation::Fill { .. } => waves,
         Operation::Copy {
             target,
             address,
             pool,
-            source: _,
-            length: _,
+            ..
         } => {
             let entry = read_pool(file, directory, pool as u32);
             if entry.kind == 1 {
