@@ -1,32 +1,25 @@
 -- What the answers of this crate say.
-use Rattle.std.specs.Prelude.{ℕ, false, cond, List}
+use Rattle.std.specs.Prelude.{ℕ, List, Option, Some, None}
 use Rattle.base_format.specs.declared.player.Part.TheVariants.{Between}
 use Rattle.base_format.specs.declared.player.Progress.{Progress}
 use Rattle.base_format.specs.declared.player.StreamPlayer.{StreamPlayer}
-use Rattle.base_format.specs.declared.rule.Rule.TheVariants.{OtherFile}
 use Rattle.base_format.specs.Checked.{Checked, ok, refused, ◌>>=◌}
 use Rattle.play_laws.specs.Plan.{Plan, plan_frame, plan}
 use Rattle.base_format.specs.Player.{frame_begun}
-use Rattle.base_format.specs.Rule.{number_of}
 use Rattle.base_format.specs.State.{moved}
 use Rattle.play_plan_taken.specs.declared.taken.Taken.{Taken}
 use Rattle.play_plan.specs.declared.call.CallPlan.{CallPlan}
 
 -- THE ANSWER OF A CALL
 
--- 25 at place 0: no write is taken, and the state stays
-abbrev pub no_plan : StreamPlayer → CallPlan
-no_plan state = record { number = number_of OtherFile; place = 0; count = 0; complete = false; next = state }
+-- a plan as the code's
+abbrev pub plan_told : Plan → CallPlan
+plan_told plan = record { count = plan.count; complete = plan.complete; next = plan.next }
 
--- the answer to a plan of a state's call
-abbrev pub plan_told : StreamPlayer → Checked Plan → CallPlan
-plan_told state (ok plan) = record { number = 0; place = 0; count = plan.count; complete = plan.complete; next = plan.next }
-plan_told state (refused number place) = no_plan state
-
--- the answer of a state to what was taken
-abbrev pub taken_told : StreamPlayer → Taken → CallPlan
-taken_told state t =
-    cond t.refused (no_plan state) (record { number = 0; place = 0; count = t.count; complete = t.complete; next = moved state t.progress })
+-- the plan of a state's call that takes so much; none is refusal 25 at place 0
+abbrev pub taken_told : StreamPlayer → Option Taken → Checked Plan
+taken_told state (Some t) = ok (record { count = t.count; complete = t.complete; next = moved state t.progress })
+taken_told state None = refused 25 0
 
 -- PLANS
 

@@ -1,22 +1,31 @@
 // What a call takes of a frame.
-ghost use Rattle.std.specs.Prelude.{◌≡◌, ◌+◌, ◌^◌, ◌≤◌, ◌<◌};
+ghost use Rattle.std.specs.Prelude.{◌≡◌, ◌+◌, ◌^◌, ◌≤◌, ◌<◌, IfSome};
+ghost use Rattle.base_format.specs.Player.{as25};
 ghost use Rattle.play_laws.specs.Plan.{plan_frame};
-ghost use Rattle.play_plan.specs.Told.{plan_told, taken_told, plan_begun};
+ghost use Rattle.play_plan.specs.Told.{taken_told, plan_begun};
 
 use base_format::{COUNT_SIZE, Progress, StreamPlayer};
 use base_state::frame_begun;
 use bytes_read::{passes, read_u16};
 use play_plan_part::plan_operations;
-use play_plan_taken::{Taken, ended, refused_part, taken_by};
+use play_plan_taken::{Taken, ended, taken_by};
 
-pub(crate) fn plan_frame(file: &[u8], state: StreamPlayer, room: usize, progress: Progress) -> Taken
-    ensures { (taken_told state result ≡ plan_told state (plan_frame state file.now room progress)) × (result.count ≤ room) }
+// None is refusal 25, here and below.
+#[tactic(auto, unfolding(play_laws::specs::Plan::plan_frame), using(base_format::proofs::As25::as25_bind, crate::proofs::Telling::frame_told))]
+pub(crate) fn plan_frame(
+    file: &[u8],
+    state: StreamPlayer,
+    room: usize,
+    progress: Progress,
+) -> Option<Taken>
+    ensures { (taken_told state result ≡ as25 (plan_frame state file.now room progress)) × IfSome result (λ taken. taken.count ≤ room) }
 {
-    let plan = plan_operations(file, state, file.len(), room, progress);
-    ended(taken_by(room, plan))
+    let plan = plan_operations(file, state, file.len(), room, progress)?;
+    Some(ended(taken_by(room, plan)))
 }
 
 // A frame, counted from 0, that begins at the cursor.
+#[tactic(auto, unfolding(base_format::specs::Player::frame_begun))]
 pub(crate) fn begin_frame(
     file: &[u8],
     state: StreamPlayer,
@@ -24,12 +33,12 @@ pub(crate) fn begin_frame(
     cursor: usize,
     frame: u32,
     progress: Progress,
-) -> Taken
+) -> Option<Taken>
     requires { frame + 1 < 2 ^ 32 }
-    ensures { (taken_told state result ≡ plan_told state (plan_begun state file.now room cursor frame progress)) × (result.count ≤ room) }
+    ensures { (taken_told state result ≡ as25 (plan_begun state file.now room cursor frame progress)) × IfSome result (λ taken. taken.count ≤ room) }
 {
     if passes(file.len(), cursor, COUNT_SIZE) {
-        return refused_part(progress);
+        return None;
     }
     let count = read_u16(file, cursor) as u32;
     let start = frame_begun(cursor + COUNT_SIZE, count, frame + 1, progress);

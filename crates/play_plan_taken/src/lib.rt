@@ -5,4 +5,4 @@ mod closing;
 mod taken;
 
 pub use closing::plan_closing;
-pub use taken::{Taken, behind, ended, refused_part, taken_by};
+pub use taken::{Taken, behind, ended, taken_by};

@@ -9,12 +9,12 @@ pub loop-place-init : goal.loop-place-init
 loop-place-init c = rw c.first_place-place.ensures (sym (call_is c.args.file.now c.args.state c.args.count c.args.run.now))
 
 pub loop-place-smaller : goal.loop-place-smaller
-loop-place-smaller c = rw c.next_segment-turn.ensures (turn_less c.args.file.now c.args.state c.loop-place.place c.loop-place-test.true)
+loop-place-smaller c = rw c.next_segment-turn.ensures (turn_less c.args.file.now c.args.state c.loop-place.place (omega arith))
 
 pub loop-place-preserved : goal.loop-place-preserved
 loop-place-preserved c =
     c.loop-place.invariant
-    ∙ stored_step c.args.file.now c.args.state c.loop-place.place c.loop-place.run c.loop-place-test.true
+    ∙ stored_step c.args.file.now c.args.state c.loop-place.place c.loop-place.run (omega arith)
     ∙ rw (c.store_segment.ensures, c.next_segment-turn.ensures)
 
 pub returns : goal.returns
