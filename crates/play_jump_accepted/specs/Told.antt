@@ -1,18 +1,12 @@
--- The answer to a jump by value, and the jump by what a start of the lent file records.
+-- The jump by what a start of the lent file records.
 use Rattle.std.specs.Prelude.{ℕ, ◌-◌, true, false, List, length}
 use Rattle.base_format.specs.declared.player.StreamPlayer.{StreamPlayer}
-use Rattle.base_format.specs.Checked.{Checked, ok, refused, refuse, ◌>>◌}
+use Rattle.base_format.specs.Checked.{Checked, ok, refuse, ◌>>◌}
 use Rattle.base_format.specs.Jump.{no_frame}
 use Rattle.base_format.specs.State.{between_at, progress_at, moved}
 use Rattle.index_check.specs.Other.{other_index}
 use Rattle.index_check.specs.Place.{place_by}
 use Rattle.play_jump_belongs.specs.Foreign.{foreign_jump}
-use Rattle.play_jump_accepted.specs.declared.JumpPlan.{JumpPlan}
-
--- a refused jump's state stays
-abbrev pub jump_told : StreamPlayer → Checked StreamPlayer → JumpPlan
-jump_told state (ok next) = record { number = 0; place = 0; next = next }
-jump_told state (refused number place) = record { number = number; place = place; next = state }
 
 -- the state before the frame that an index finds in a file of a version
 abbrev pub found_by : StreamPlayer → (version : ℕ) → (file index : List ℕ) → (frame : ℕ) → StreamPlayer

@@ -3,64 +3,36 @@
 #![tactic(auto)]
 
 ghost use Rattle.std.specs.Prelude.{◌≡◌};
-ghost use Rattle.base_format.specs.Checked.{refused};
-ghost use Rattle.base_format.specs.Rule.{number_of};
-ghost use Rattle.play_jump_accepted.specs.Told.{jump_told, jumped_by};
+ghost use Rattle.base_format.specs.Rule.{answer_of};
+ghost use Rattle.play_jump_accepted.specs.Told.{jumped_by};
 
-use base_format::{Rule, StreamPlayer};
-use base_refusal::number;
+use base_format::{Refusal, Rule, StreamPlayer};
+use base_refusal::refuse;
 use base_state::{before_frame, moved};
 use index_check::{frame_place, other_index};
 use play_jump_belongs::jump_foreign;
 
-// A jump's plan: number and place of its refusal, or 0 and 0; and the next state. A refused jump's state stays.
-#[derive(Clone, Copy)]
-pub struct JumpPlan {
-    pub number: u32,
-    pub place: u64,
-    pub next: StreamPlayer,
-}
-
-// Refused by a rule at a place.
-pub fn refused_jump(state: StreamPlayer, rule: Rule, place: usize) -> JumpPlan
-    ensures { result ≡ jump_told state (refused (number_of rule) place) }
-{
-    JumpPlan {
-        number: number(rule),
-        place: place as u64,
-        next: state,
-    }
-}
-
-// A jump in an accepted file whose start gives the state `recorded`.
+// A jump in an accepted file whose start gives the state `recorded`: the next state.
+#[tactic(auto, unfolding(crate::specs::Told::jumped_by), using(base_format::proofs::Answered::passed_on, base_format::proofs::Answered::refused_first))]
 pub fn plan_by(
     file: &[u8],
     index: &[u8],
     state: StreamPlayer,
     recorded: StreamPlayer,
     frame: u32,
-) -> JumpPlan
-    ensures { result ≡ jump_told state (jumped_by state recorded file.now index.now frame) }
+) -> Result<StreamPlayer, Refusal>
+    ensures { answer_of result ≡ jumped_by state recorded file.now index.now frame }
 {
-    if jump_foreign(file.len(), state, recorded) {
-        return refused_jump(state, Rule::OtherFile, 0);
-    }
     let header = recorded.header;
-    if other_index(file, header, index) {
-        return refused_jump(state, Rule::OtherIndex, 0);
-    }
-    if frame == 0 {
-        return refused_jump(state, Rule::NoFrame, 0);
-    }
-    if header.frame_count < frame {
-        return refused_jump(state, Rule::NoFrame, 0);
-    }
+    let other = jump_foreign(file.len(), state, recorded);
+    refuse(Rule::OtherFile, 0, other)?;
+    refuse(Rule::OtherIndex, 0, other_index(file, header, index))?;
+    refuse(
+        Rule::NoFrame,
+        0,
+        (frame == 0) | (header.frame_count < frame),
+    )?;
     let place = frame_place(file, header.version, index, frame);
     let progress = state.progress;
-    let next = moved(state, before_frame(progress, place, frame - 1));
-    JumpPlan {
-        number: 0,
-        place: 0,
-        next: next,
-    }
+    Ok(moved(state, before_frame(progress, place, frame - 1)))
 }
