@@ -59,3 +59,8 @@ planned_operations_25 state file limit left room p some h =
     )
     (bind_25 (item_used state file limit p.cursor) _ (λ (item : Item). refuse 25 0 (too_few p item) >> behind_start state file limit left room p (start_of state file p item)) λ item.
     row_25 (too_few p item) (ltb room (start_of state file p item).rest) _ _)
+
+-- an operation that is refused refuses all
+pub operations_refused : (state : StreamPlayer) (file : List ℕ) (limit left room : ℕ) (p : Progress) → 0 < left → 0 < room
+    → refused 25 0 ≡ item_start state file limit p.cursor p.write_index p.wave_sources → as25 (planned_operations state file limit left room p) ≡ refused 25 0
+operations_refused state file limit left room p some h e = rw (planned_operations_25 state file limit left room p some h, ← e)

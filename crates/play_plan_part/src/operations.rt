@@ -17,6 +17,7 @@ pub struct OperationsPlan {
 }
 
 // The operations from the progress on, for as many writes as there is room for; none is refusal 25. Without room nothing is read.
+#[tactic(auto, using(crate::proofs::PlannedOperations::operations_refused))]
 pub fn plan_operations(
     file: &[u8],
     state: StreamPlayer,
@@ -44,7 +45,8 @@ pub fn plan_operations(
         let started = start_item(file, state, limit, cursor, writes, waves)?;
         waves = started.waves;
         let rest = started.rest as usize;
-        if free < rest {
+        let cut = free < rest;
+        if cut {
             let made = writes + free as u32;
             let full = placed(progress, cursor, operations, made, waves);
             return Some(OperationsPlan {

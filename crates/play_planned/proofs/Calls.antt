@@ -8,6 +8,8 @@ use Rattle.base_format.specs.State.{part_of}
 use Rattle.base_format.specs.declared.operation.WriteRecord.{WriteRecord}
 use Rattle.base_format.specs.declared.player.StreamPlayer.{StreamPlayer}
 use Rattle.base_format.specs.Checked.{Checked, ok, refused, mapped, ◌>>◌}
+use Rattle.base_format.specs.declared.rule.Refusal.{Refusal}
+use Rattle.base_format.specs.Rule.{number_of, refusal}
 use Rattle.base_format.specs.Listener.{after}
 use Rattle.play_laws.specs.Plan.{plan_of, planned}
 use Rattle.base_format.specs.Player.{Played, play, belongs, as25, call, run_after}
@@ -16,13 +18,9 @@ use Rattle.play_laws.proofs.Planned.{planned_is}
 use Rattle.play_plan.specs.declared.call.CallPlan.{CallPlan}
 use Rattle.play_plan.specs.Told.{plan_told}
 use Rattle.play_store.specs.Stored.{stored_call}
-use Rattle.play_store.proofs.Call.{stored_nothing, call_stored}
+use Rattle.play_store.proofs.Call.{call_stored}
 use Rattle.play_planned.specs.declared.Vsync.{Vsync}
-use Rattle.play_planned.specs.Vsync.{vsync_of}
-
--- what a plan tells
-abbrev pub told_of : CallPlan → Vsync
-told_of plan = record { number = plan.number; place = plan.place; count = plan.count; complete = plan.complete }
+use Rattle.play_planned.specs.Vsync.{vsync_of, Advanced}
 
 -- whatever a call refuses is 25, at place 0
 pub refused_25 : (state : StreamPlayer) (file : List ℕ) (room number place : ℕ) → call state file room ≡ refused number place → (number ≡ 25) × (place ≡ 0)
@@ -38,35 +36,33 @@ refused_25 state file room number place e = either state.progress.finished (belo
     either false x e = as_25 x e
 
 module _ (state : StreamPlayer) (file : List ℕ) (run : List WriteRecord) where
-  abbrev answer : Checked Played
-  answer = call state file (length run)
-
-  -- the plan of a call
-  abbrev plan : CallPlan
-  plan = plan_told state (planned state file (length run))
-
-  plan_is : plan ≡ plan_told state (mapped plan_of answer)
-  plan_is = ap (plan_told state) (planned_is state file (length run))
-
-  pub told_is : told_of plan ≡ vsync_of answer
-  told_is = ap told_of plan_is ∙ go answer refl
+  -- a call that is planned is played so
+  pub accepted_call : (plan : CallPlan) → ok plan ≡ mapped plan_told (planned state file (length run))
+      → Advanced state file run (record { number = 0; place = 0; count = plan.count; complete = plan.complete }) plan.next (stored_call file state plan.count run)
+  accepted_call plan given = go (call state file (length run)) refl (given ∙ ap (mapped plan_told) (planned_is state file (length run)))
     where
-      go : (a : Checked Played) → call state file (length run) ≡ a → told_of (plan_told state (mapped plan_of a)) ≡ vsync_of a
-      go (ok a) e = refl
-      go (refused number place) e =
-          let known = refused_25 state file (length run) number place e in
-          rw (known.0, known.1)
+      go : (answer : Checked Played) → call state file (length run) ≡ answer → ok plan ≡ mapped plan_told (mapped plan_of answer)
+          → Advanced state file run (record { number = 0; place = 0; count = plan.count; complete = plan.complete }) plan.next (stored_call file state plan.count run)
+      go (ok a) e given =
+          let same : plan ≡ plan_told (plan_of a) = cc in (
+            ap (λ (p : CallPlan). record { number = 0; place = 0; count = p.count; complete = p.complete }) same ∙ ap vsync_of (sym e),
+            ap (λ (p : CallPlan). p.next) same ∙ ap (after state) (sym e),
+            ap (λ (p : CallPlan). stored_call file state p.count run) same ∙ call_stored file state run a e,
+          )
+      go (refused number place) e given = cc
 
-  pub state_is : plan.next ≡ after state answer
-  state_is = ap (λ (p : CallPlan). p.next) plan_is ∙ go answer
+  -- and one that is refused leaves the state and the run
+  pub refused_call : (r : Refusal) → refusal r ≡ mapped plan_told (planned state file (length run))
+      → Advanced state file run (record { number = number_of r.rule; place = r.place; count = 0; complete = false }) state run
+  refused_call r given = go (call state file (length run)) refl (given ∙ ap (mapped plan_told) (planned_is state file (length run)))
     where
-      go : (a : Checked Played) → (plan_told state (mapped plan_of a)).next ≡ after state a
-      go (ok a) = refl
-      go (refused number place) = refl
-
-  pub run_is : stored_call file state plan.count run ≡ run_after run answer
-  run_is = ap (λ (p : CallPlan). stored_call file state p.count run) plan_is ∙ go answer refl
-    where
-      go : (a : Checked Played) → call state file (length run) ≡ a → stored_call file state (plan_told state (mapped plan_of a)).count run ≡ run_after run (call state file (length run))
-      go (ok a) e = call_stored file state run a e
-      go (refused number place) e = stored_nothing file state run ∙ ap (run_after run) (sym e)
+      go : (answer : Checked Played) → call state file (length run) ≡ answer → refusal r ≡ mapped plan_told (mapped plan_of answer)
+          → Advanced state file run (record { number = number_of r.rule; place = r.place; count = 0; complete = false }) state run
+      go (ok a) e given = cc
+      go (refused number place) e given =
+          let same : number_of r.rule ≡ number = cc in
+          let at : r.place ≡ place = cc in (
+            rw (e, same, at),
+            ap (after state) (sym e),
+            ap (run_after run) (sym e),
+          )

@@ -19,17 +19,27 @@ pub struct Vsync {
 }
 
 // The call of any state: its plan is made, and then its records are stored.
+#[tactic(auto, using(crate::proofs::Calls::accepted_call))]
 pub fn planned_vsync(state: &mut StreamPlayer, file: &[u8], run: &mut [WriteRecord]) -> Vsync
     ensures { Advanced state.old file.now run.old result state.new run.new }
 {
     let before = *state;
-    let plan = plan_call(before, file, run.len());
-    store_call(run, file, before, plan.count);
-    *state = plan.next;
-    Vsync {
-        number: plan.number,
-        place: plan.place,
-        count: plan.count,
-        complete: plan.complete,
+    match plan_call(before, file, run.len()) {
+        Ok(plan) => {
+            store_call(run, file, before, plan.count);
+            *state = plan.next;
+            Vsync {
+                number: 0,
+                place: 0,
+                count: plan.count,
+                complete: plan.complete,
+            }
+        }
+        Err(refusal) => Vsync {
+            number: u32::from(refusal.rule),
+            place: refusal.place as u64,
+            count: 0,
+            complete: false,
+        },
     }
 }

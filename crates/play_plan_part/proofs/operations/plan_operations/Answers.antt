@@ -12,16 +12,8 @@ returns-then-free-eq0 c =
     let l = c.loop-i in
     (rw (l.invariant.2, c.placed-full.ensures, c.if-free-eq0.true, planned_operations_full a.state a.file.now a.limit (operations_left a.progress - l._i)), omega arith)
 
-pub returns-in_err-started : goal.returns-in_err-started
-returns-in_err-started c =
-    let a = c.args in
-    let l = c.loop-i in
-    let p = placed a.progress l.cursor l.operations l.writes l.waves in
-    rw c.from_residual.ensures
-    (rw (l.invariant.2, planned_operations_25 a.state a.file.now a.limit (operations_left a.progress - l._i) l.free p (omega arith) (omega arith), ← c.in_err-started.ensures.0), tt)
-
-pub returns-then-free-rest : goal.returns-then-free-rest
-returns-then-free-rest c =
+pub returns-then-cut : goal.returns-then-cut
+returns-then-cut c =
     let a = c.args in
     let l = c.loop-i in
     let p = placed a.progress l.cursor l.operations l.writes l.waves in (
@@ -30,7 +22,7 @@ returns-then-free-rest c =
         planned_operations_25 a.state a.file.now a.limit (operations_left a.progress - l._i) l.free p (omega arith) (omega arith),
         ← c.in_ok-started.ensures.0,
         lt-ltb l.free c.in_ok-started.started.rest (omega arith),
-        c.placed-full-then-free-rest.ensures,
+        c.placed-full-then-cut.ensures,
       ),
       omega arith,
     )
