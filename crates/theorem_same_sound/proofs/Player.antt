@@ -2,7 +2,7 @@
 use Prim.Native.Nat.{ℕ, ◌-◌, ◌<◌}
 use mathlib.Core.Bool.{true, false, not}
 use mathlib.Core.List.{List, [], map}
-use mathlib.Core.Option.{none}
+use Rattle.std.specs.Prelude.{None}
 use mathlib.Core.Path.{◌≡◌, refl, sym, ap, ◌∙◌}
 use native.Mathlib.Nat.{zero-add}
 use lib.ListN.{length}
@@ -67,7 +67,7 @@ module _ (file : List ℕ) (s : Stream) (reads : read file ≡ ok s) (calls : Li
   unfolding wave_source_at wave_source_behind operations_before
   source_is core channel =
       ap (λ (state : StreamPlayer). wave_source state core channel) (sym state_is) ∙ wave_source_of_steps file s reads (only_calls calls) steps_admissible core channel
-      ∙ ap (λ (t : List Answer). wave_source_behind s t core channel) is ∙ ap (λ (made : List Operation). last_copied s.pools core channel made none) (begun_of s 0 [] told)
+      ∙ ap (λ (t : List Answer). wave_source_behind s t core channel) is ∙ ap (λ (made : List Operation). last_copied s.pools core channel made None) (begun_of s 0 [] told)
       ∙ ap (λ (n : ℕ). wave_source_at s n (length (under_way told)) core channel) (zero-add (completed told))
 
 pub each_vsync : EachVsync

@@ -2,7 +2,7 @@
 use Prim.Native.Nat.{ℕ, ◌+◌, ◌*◌, ◌<◌}
 use mathlib.Core.Bool.{Bool, true, false, cond, ◌&&◌}
 use mathlib.Core.List.{List}
-use mathlib.Core.Option.{none}
+use Rattle.std.specs.Prelude.{None}
 use mathlib.Core.Path.{◌≡◌, refl, sym, ap, ◌∙◌}
 use native.Mathlib.Omega.{arith}
 use borrow.Author.Tests.{ltb-true}
@@ -24,17 +24,17 @@ use Rattle.theorem_same_sound.proofs.Steps.{from_start}
 use Rattle.theorem_same_sound.proofs.Waves.{AllKept, begun_kept, all_copied, none_copied}
 
 module _ (file : List ℕ) (s : Stream) where
-  nothing_yet : (core channel : ℕ) → core < 2 → channel < 8 → pool_in (get_or (replicate 16 no_wave) (core * 8 + channel) no_wave) ≡ none
+  nothing_yet : (core channel : ℕ) → core < 2 → channel < 8 → pool_in (get_or (replicate 16 no_wave) (core * 8 + channel) no_wave) ≡ None
   nothing_yet core channel low few = ap pool_in (get_or-replicate 16 (core * 8 + channel) no_wave no_wave (omega arith))
 
   -- a state whose wave sources were set by these operations
   source_is : (state : StreamPlayer) (made : List Operation) → AllKept file s made → state.progress.wave_sources ≡ waves_by_all file made (replicate 16 no_wave)
-      → (core channel : ℕ) → wave_source state core channel ≡ last_copied s.pools core channel made none
+      → (core channel : ℕ) → wave_source state core channel ≡ last_copied s.pools core channel made None
   unfolding wave_source
   source_is state made kept is core channel = go (ltb core 2 && ltb channel 8) refl
     where
       go : (b : Bool) → (ltb core 2 && ltb channel 8) ≡ b
-          → cond b (pool_in (get_or state.progress.wave_sources (core * 8 + channel) no_wave)) none ≡ last_copied s.pools core channel made none
+          → cond b (pool_in (get_or state.progress.wave_sources (core * 8 + channel) no_wave)) None ≡ last_copied s.pools core channel made None
       go true e =
           let inside = and_true _ _ e in
           ap (λ (waves : List WaveSource). pool_in (get_or waves (core * 8 + channel) no_wave)) is

@@ -2,7 +2,7 @@
 use Prim.Native.Nat.{ℕ, zero, suc, ◌+◌, ◌-◌, ◌*◌, ◌%◌, ◌/◌, ◌<◌}
 use mathlib.Core.Bool.{Bool, true, false, cond, ◌&&◌, true≢false}
 use mathlib.Core.List.{List, [], ◌∷◌, ◌++◌}
-use mathlib.Core.Option.{Option, none, some}
+use Rattle.std.specs.Prelude.{Option, Some, None}
 use mathlib.Core.Path.{◌≡◌, refl, sym, ap, subst, ◌∙◌}
 use native.Mathlib.Omega.{arith}
 use borrow.Author.Tests.{eqb-true, eqb-false, lt-ltb}
@@ -135,7 +135,7 @@ module _ (file : List ℕ) (s : Stream) (core channel : ℕ) (low : core < 2) (f
   seen waves = pool_in (get_or waves (core * 8 + channel) no_wave)
 
   copied_there : (target address id : ℕ) (waves : List WaveSource) → length waves ≡ 16 → target < 2 → address / 256 < 8
-      → seen (set waves (target * 8 + address / 256) (record { copied = true; pool = id })) ≡ cond (eqb target core && eqb (address / 256) channel) (some id) (seen waves)
+      → seen (set waves (target * 8 + address / 256) (record { copied = true; pool = id })) ≡ cond (eqb target core && eqb (address / 256) channel) (Some id) (seen waves)
   copied_there target address id waves long low' few' = go (eqb target core) refl (eqb (address / 256) channel) refl
     where
       x : WaveSource
@@ -144,7 +144,7 @@ module _ (file : List ℕ) (s : Stream) (core channel : ℕ) (low : core < 2) (f
       other : (target * 8 + address / 256 ≡ core * 8 + channel → ⊥) → seen (set waves (target * 8 + address / 256) x) ≡ seen waves
       other apart = ap pool_in (get_or-set_other waves (target * 8 + address / 256) (core * 8 + channel) x no_wave (λ (e : core * 8 + channel ≡ target * 8 + address / 256). apart (sym e)))
 
-      go : (b : Bool) → eqb target core ≡ b → (c : Bool) → eqb (address / 256) channel ≡ c → seen (set waves (target * 8 + address / 256) x) ≡ cond (b && c) (some id) (seen waves)
+      go : (b : Bool) → eqb target core ≡ b → (c : Bool) → eqb (address / 256) channel ≡ c → seen (set waves (target * 8 + address / 256) x) ≡ cond (b && c) (Some id) (seen waves)
       go true e true e' =
           let here : target * 8 + address / 256 ≡ core * 8 + channel = omega (arith, eqb-true target core e, eqb-true (address / 256) channel e') in
           rw here (ap pool_in (get_or-set_same waves (core * 8 + channel) x no_wave (omega (arith, long))))
@@ -163,7 +163,7 @@ module _ (file : List ℕ) (s : Stream) (core channel : ℕ) (low : core < 2) (f
       to = set waves (target * 8 + address / 256) (record { copied = true; pool = id })
 
       go : (b : Bool) → eqb (pool_at file (header_of file).directory_offset id).kind 1 ≡ b
-          → (seen (cond b to waves) ≡ cond (b && eqb target core && eqb (address / 256) channel) (some id) (seen waves)) × (length (cond b to waves) ≡ 16)
+          → (seen (cond b to waves) ≡ cond (b && eqb target core && eqb (address / 256) channel) (Some id) (seen waves)) × (length (cond b to waves) ≡ 16)
       go true e =
           let place = k.1 (eqb-true _ _ e) in
           (copied_there target address id waves long place.0 place.1, length-set waves _ _ ∙ long)
@@ -179,7 +179,7 @@ module _ (file : List ℕ) (s : Stream) (core channel : ℕ) (low : core < 2) (f
 
 -- outside 2 × 8 nothing is copied
 pub none_copied : (file : List ℕ) (s : Stream) (core channel : ℕ) → (ltb core 2 && ltb channel 8) ≡ false → (operations : List Operation) → AllKept file s operations
-    → last_copied s.pools core channel operations none ≡ none
+    → last_copied s.pools core channel operations None ≡ None
 unfolding last_copied copied_by
 none_copied file s core channel out [] all = refl
 none_copied file s core channel out (Write target address value ∷ more) all = none_copied file s core channel out more all.1
@@ -189,7 +189,7 @@ none_copied file s core channel out (Copy target address id source size ∷ more
     ∙ none_copied file s core channel out more all.1
   where
     go : (a : Bool) → eqb (pool_at file (header_of file).directory_offset id).kind 1 ≡ a → (b : Bool) → eqb target core ≡ b → (c : Bool) → eqb (address / 256) channel ≡ c
-        → cond (a && b && c) (some id) none ≡ none
+        → cond (a && b && c) (Some id) None ≡ None
     go true e true e' true e'' =
         let place = all.0.1 (eqb-true (pool_at file (header_of file).directory_offset id).kind 1 e) in
         let core-low : ltb core 2 ≡ true = lt-ltb core 2 (omega (arith, place.0, eqb-true target core e')) in
