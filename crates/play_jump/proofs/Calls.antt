@@ -1,21 +1,17 @@
--- The answer of a jump's plan, and the state that it leaves, are the jump's.
-use mathlib.Core.Path.{◌≡◌, refl}
+-- What a jump tells, and the state that it leaves, by its plan.
+use Prim.Native.Nat.{ℕ}
+use mathlib.Core.List.{List}
+use mathlib.Core.Path.{◌≡◌, refl, sym, ap}
 use Rattle.base_format.specs.declared.player.StreamPlayer.{StreamPlayer}
+use Rattle.base_format.specs.declared.rule.Refusal.{Refusal}
 use Rattle.base_format.specs.Checked.{Checked, ok, refused, mapped}
-use Rattle.base_format.specs.Jump.{state_after}
-use Rattle.play_jump_accepted.specs.declared.JumpPlan.{JumpPlan}
-use Rattle.play_jump_accepted.specs.Told.{jump_told}
-use Rattle.play_jump.specs.declared.Jumped.{Jumped}
-use Rattle.play_jump.specs.Jumped.{jumped_of}
+use Rattle.base_format.specs.Jump.{jumped, state_after}
+use Rattle.base_format.specs.Rule.{number_of, refusal}
+use Rattle.play_jump.specs.Jumped.{jumped_of, JumpMade}
 
--- what a plan tells
-abbrev pub told_of : JumpPlan → Jumped
-told_of plan = record { number = plan.number; place = plan.place }
+module _ (state : StreamPlayer) (file index : List ℕ) (frame : ℕ) where
+  pub jump_accepted : (next : StreamPlayer) → ok next ≡ jumped state file index frame → JumpMade state file index frame (record { number = 0; place = 0 }) next
+  jump_accepted next given = rw (← given) (refl, refl)
 
-pub told_is : (state : StreamPlayer) (answer : Checked StreamPlayer) → told_of (jump_told state answer) ≡ jumped_of (mapped (λ (next : StreamPlayer). tt) answer)
-told_is state (ok next) = refl
-told_is state (refused number place) = refl
-
-pub state_is : (state : StreamPlayer) (answer : Checked StreamPlayer) → (jump_told state answer).next ≡ state_after state answer
-state_is state (ok next) = refl
-state_is state (refused number place) = refl
+  pub jump_refused : (r : Refusal) → refusal r ≡ jumped state file index frame → JumpMade state file index frame (record { number = number_of r.rule; place = r.place }) state
+  jump_refused r given = rw (← given) (refl, refl)

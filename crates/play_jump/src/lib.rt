@@ -18,11 +18,17 @@ pub struct Jumped {
 pub fn jump_to_frame(state: &mut StreamPlayer, file: &[u8], index: &[u8], frame: u32) -> Jumped
     ensures { JumpMade state.old file.now index.now frame result state.new }
 {
-    let before = *state;
-    let plan = plan_jump(before, file, index, frame);
-    *state = plan.next;
-    Jumped {
-        number: plan.number,
-        place: plan.place,
+    match plan_jump(*state, file, index, frame) {
+        Ok(next) => {
+            *state = next;
+            Jumped {
+                number: 0,
+                place: 0,
+            }
+        }
+        Err(refusal) => Jumped {
+            number: u32::from(refusal.rule),
+            place: refusal.place as u64,
+        },
     }
 }

@@ -12,6 +12,8 @@ use Rattle.base_format.specs.Header.{header_of}
 use Rattle.base_format.specs.Index.{index_of}
 use Rattle.base_format.specs.Jump.{no_frame, before_frame, jump_belongs, jumped}
 use Rattle.base_format.specs.State.{between_at, progress_at, player_of, started_as, started, moved}
+use Rattle.base_format.specs.declared.rule.Refusal.{Refusal}
+use Rattle.base_format.specs.Rule.{number_of, refusal}
 use Rattle.base_format.specs.Stream.{Stream, read}
 use Rattle.base_format.proofs.Accepted.{accepted}
 use Rattle.base_format.proofs.Checks.{refused_not_ok}
@@ -79,14 +81,13 @@ planned_accepted state file index frame bytes given = go (read file) refl given
     go (ok s) e given = jumped_by_lem state file index frame s e bytes
     go (refused number place) e given = absurd (refused_not_ok (sym given))
 
-pub planned_refused : (state : StreamPlayer) (file index : List ℕ) (frame number place : ℕ) → refused number place ≡ verdict_in (read file)
-    → refused number place ≡ jumped state file index frame
+pub planned_refused : (state : StreamPlayer) (file index : List ℕ) (frame : ℕ) (y : Refusal) → refusal y ≡ verdict_in (read file) → refusal y ≡ jumped state file index frame
 unfolding jumped
-planned_refused state file index frame number place given = go (read file) refl given
+planned_refused state file index frame y given = go (read file) refl given
   where
-    go : (answer : Checked Stream) → read file ≡ answer → refused number place ≡ verdict_in answer → refused number place ≡ jumped state file index frame
+    go : (answer : Checked Stream) → read file ≡ answer → refusal y ≡ verdict_in answer → refusal y ≡ jumped state file index frame
     go (ok s) e given = absurd (refused_not_ok given)
     go (refused n p) e given =
-        let same : number ≡ n = cc in
-        let at : place ≡ p = cc in
+        let same : number_of y.rule ≡ n = cc in
+        let at : y.place ≡ p = cc in
         rw (e, same, at)

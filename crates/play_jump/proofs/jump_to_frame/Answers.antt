@@ -1,10 +1,9 @@
--- `play_jump::jump_to_frame` meets its contract: what the plan tells, and the state behind it, are the jump's.
-use Rattle.base_format.specs.Jump.{jumped}
-use Rattle.play_jump.proofs.Calls.{told_is, state_is}
+-- The answer of the plan is what the jump tells and leaves.
+use Rattle.play_jump.proofs.Calls.{jump_accepted, jump_refused}
 use Rattle.play_jump.proofs.jump_to_frame.Goals as goal
 
-pub returns : goal.returns
-returns c =
-    let s = c.args.state.now in
-    let answer = jumped s c.args.file.now c.args.index.now c.args.frame in
-    (rw c.plan_jump-plan.ensures (told_is s answer), rw c.plan_jump-plan.ensures (state_is s answer))
+pub returns-in-Ok : goal.returns-in-Ok
+returns-in-Ok c = jump_accepted c.args.state.now c.args.file.now c.args.index.now c.args.frame c.in-Ok.next c.in-Ok.ensures
+
+pub returns-in-Err : goal.returns-in-Err
+returns-in-Err c = rw c.from.ensures (jump_refused c.args.state.now c.args.file.now c.args.index.now c.args.frame c.in-Err.refusal c.in-Err.ensures)
