@@ -12,7 +12,7 @@ pub struct Span {
     pub target: u8,
     pub address: u32,
     pub count: u32,
-    // Of one value, or, where `copied`, of the bytes from `source` on of the pool at `offset`: a flag, for speed.
+    // Of one value, or, where `copied`, of the bytes from `source` on of the pool at `offset`. It is a flag and no enum for speed, as above.
     pub copied: bool,
     pub value: u8,
     pub offset: u32,

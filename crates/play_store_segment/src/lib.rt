@@ -7,7 +7,8 @@ ghost use Rattle.play_store_segment.specs.Segment.{fitting, segment_stored};
 use base_format::WriteRecord;
 use bytes_read::passes;
 
-// `count` records to a target, upward from an address: of one value, or, where `copied`, of as many bytes of the file from a place.
+// `count` records to a target, upward from an address: of one value, or, where `copied`, of as many bytes of the file from a place. It is a
+// flag and no enum for speed: no enum is taken apart for each record.
 #[derive(Clone, Copy)]
 pub struct Segment {
     pub target: u8,
