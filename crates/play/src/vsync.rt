@@ -4,7 +4,7 @@ ghost use Rattle.play_planned.specs.Vsync.{Advanced};
 use base_format::{StreamPlayer, WriteRecord};
 use base_position::store_position;
 use play_fast::quick_step;
-use play_fast_empty::empty_step;
+use play_fast_empty::{EmptyStep, empty_step};
 use play_planned::{Vsync, planned_vsync};
 use play_store_fast::store_step;
 
@@ -13,14 +13,13 @@ fn busy_vsync(state: &mut StreamPlayer, file: &[u8], run: &mut [WriteRecord]) ->
     ensures { Advanced state.old file.now run.old result state.new run.new }
 {
     let seen = *state;
-    let step = quick_step(file, seen.header, seen.cards, seen.progress, run.len());
-    if step.taken {
+    if let Some(step) = quick_step(file, seen.header, seen.cards, seen.progress, run.len()) {
         store_step(run, file, seen.header.version, step);
         store_position(state, step.to);
         return Vsync {
             number: 0,
             place: 0,
-            count: step.count,
+            count: step.writes.count(),
             complete: step.complete,
         };
     }
@@ -34,20 +33,23 @@ pub fn advance_vsync(state: &mut StreamPlayer, file: &[u8], run: &mut [WriteReco
     ensures { Advanced state.old file.now run.old result state.new run.new }
 {
     let seen = *state;
-    let step = empty_step(file, seen.header, seen.cards.count, seen.progress);
-    if step.under_way {
-        let going = busy_vsync(state, file, run);
-        return going;
+    match empty_step(file, seen.header, seen.cards.count, seen.progress) {
+        EmptyStep::UnderWay => {
+            let going = busy_vsync(state, file, run);
+            going
+        }
+        EmptyStep::Taken(to) => {
+            store_position(state, to);
+            Vsync {
+                number: 0,
+                place: 0,
+                count: 0,
+                complete: true,
+            }
+        }
+        EmptyStep::NotTaken => {
+            let begun = busy_vsync(state, file, run);
+            begun
+        }
     }
-    if step.taken {
-        store_position(state, step.to);
-        return Vsync {
-            number: 0,
-            place: 0,
-            count: 0,
-            complete: true,
-        };
-    }
-    let begun = busy_vsync(state, file, run);
-    begun
 }

@@ -3,7 +3,7 @@ use Rattle.std.proofs.Common.{◌∙◌}
 use Rattle.play.proofs.Calls.{empty_told_lem}
 use Rattle.play.proofs.vsync.advance_vsync.Goals as goal
 
-pub returns-then-step-2 : goal.returns-then-step-2
-returns-then-step-2 c =
-    let told = empty_told_lem c.args.state.now c.args.file.now c.args.run.now c.empty_step-step.result c.empty_step-step.ensures c.if-step-2.true in
+pub returns-in-Taken : goal.returns-in-Taken
+returns-in-Taken c =
+    let told = empty_told_lem c.args.state.now c.args.file.now c.args.run.now c.in-Taken.to c.in-Taken.ensures in
     (told.0, c.store_position.ensures ∙ told.1, told.2)
