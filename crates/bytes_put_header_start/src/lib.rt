@@ -12,7 +12,7 @@ use bytes_read::{put_u8, put_u32};
 fn flag(repeat: bool) -> u8
     ensures { (result ≡ cond repeat 1 0) × (result < 256) }
 {
-    if repeat { 1 } else { 0 }
+    u8::from(repeat)
 }
 
 // The bytes 0 to 11.

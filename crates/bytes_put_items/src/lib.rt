@@ -40,6 +40,7 @@ pub fn put_item(buffer: &mut [u8], at: usize, version: u8, operation: Operation)
 }
 
 // The count in front of a frame's operations.
+#[tactic(auto, unfolding(base_format::specs::Bytes::bytes_of_all))]
 pub fn put_count(buffer: &mut [u8], at: usize, count: u16)
     ensures { buffer.new ≡ put (count_bytes count) at buffer.old }
 {

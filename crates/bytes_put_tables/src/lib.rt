@@ -14,36 +14,25 @@ use base_format::{CARD_SIZE, CardRequirement, CardTable};
 use bytes_read::{put_u8, put_u16, put_u32};
 
 // The sixteen bytes of a card's name.
+#[tactic(auto, using(bytes_read::proofs::Laws::put_part))]
 fn put_id(buffer: &mut [u8], at: usize, id: [u8; 16])
     requires { at + 16 ≤ length buffer.old }
     ensures { (buffer.new ≡ put id at buffer.old) × (length id ≡ 16) }
 {
-    let mut i: usize = 0;
-    while i < 16 {
-        buffer[at + i] = id[i];
-        i += 1;
-    }
+    buffer[at..at + 16].copy_from_slice(&id);
 }
 
 // The sixteen bytes before the name: the slot, the name's length and offset, the range that FILL and COPY may write.
-fn put_numbers(
-    buffer: &mut [u8],
-    at: usize,
-    slot: u8,
-    id_length: u8,
-    id_offset: u32,
-    bulk_start: u32,
-    bulk_length: u32,
-)
+fn put_numbers(buffer: &mut [u8], at: usize, card: CardRequirement)
     requires { at + 16 ≤ length buffer.old }
-    ensures { buffer.new ≡ put (bytes_of_all (number_fields slot id_length id_offset bulk_start bulk_length)) at buffer.old }
+    ensures { buffer.new ≡ put (bytes_of_all (number_fields card.slot card.id_length card.id_offset card.bulk_start card.bulk_length)) at buffer.old }
 {
-    put_u8(buffer, at, slot);
-    put_u8(buffer, at + 1, id_length);
+    put_u8(buffer, at, card.slot);
+    put_u8(buffer, at + 1, card.id_length);
     put_u16(buffer, at + 2, 0);
-    put_u32(buffer, at + 4, id_offset);
-    put_u32(buffer, at + 8, bulk_start);
-    put_u32(buffer, at + 12, bulk_length);
+    put_u32(buffer, at + 4, card.id_offset);
+    put_u32(buffer, at + 8, card.bulk_start);
+    put_u32(buffer, at + 12, card.bulk_length);
 }
 
 // A card. That a name has sixteen bytes, which its type says, is passed on to the table.
@@ -51,17 +40,8 @@ fn put_card(buffer: &mut [u8], at: usize, card: CardRequirement)
     requires { at + 32 ≤ length buffer.old }
     ensures { (buffer.new ≡ put (bytes_of_all (card_fields card)) at buffer.old) × (length card.id ≡ 16) }
 {
-    let id = card.id;
-    put_numbers(
-        buffer,
-        at,
-        card.slot,
-        card.id_length,
-        card.id_offset,
-        card.bulk_start,
-        card.bulk_length,
-    );
-    put_id(buffer, at + 16, id);
+    put_numbers(buffer, at, card);
+    put_id(buffer, at + 16, card.id);
 }
 
 // The cards of a table.
@@ -69,14 +49,8 @@ pub fn put_cards(buffer: &mut [u8], at: usize, table: CardTable)
     requires { (table.count ≤ 8) × (at + table.count * card_size ≤ length buffer.old) }
     ensures { buffer.new ≡ put (cards_bytes (cards_of table)) at buffer.old }
 {
-    let count = table.count;
-    let mut place = at;
-    let mut i: usize = 0;
-    while i < count {
-        let card = table.cards[i];
-        put_card(buffer, place, card);
-        place += CARD_SIZE;
-        i += 1;
+    for i in 0..table.count {
+        put_card(buffer, at + i * CARD_SIZE, table.cards[i]);
     }
 }
 

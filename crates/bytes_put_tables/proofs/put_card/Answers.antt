@@ -1,21 +1,15 @@
 -- The name stands behind the numbers.
-use mathlib.Core.Path.{sym}
-use native.Mathlib.Omega.{arith}
-use borrow.Author.Rules.{rules}
+use Rattle.std.proofs.Common.{arith, sym}
 use Rattle.base_format.specs.Bytes.{bytes_of_all}
 use Rattle.base_format.proofs.Fields.{fields_size_lem}
 use Rattle.bytes_read.proofs.Sequence.{put_next}
 use Rattle.bytes_put_tables.proofs.Cards.{numbers_of, card_parts, card_size_lem}
-use Rattle.bytes_put_tables.proofs.put_card.Statement.{statement}
-use Rattle.bytes_put_tables.proofs.put_card.Tie as tie
+use Rattle.bytes_put_tables.proofs.put_card.Goals as goal
 
-returns : tie.Need-returns
+pub returns : goal.returns
 returns c =
     let a = c.args in
     let named = c.put_id.ensures in
     let numbers = bytes_of_all (numbers_of a.card) in
     let room = rw (card_parts a.card) at (card_size_lem a.card named.1) in
     (rw (named.0, c.put_numbers.ensures, card_parts a.card) (sym (put_next numbers a.card.id a.at 16 a.buffer.now (fields_size_lem (numbers_of a.card)) (omega (arith, room)))), named.1)
-
-pub put_card_spec : {M : Type 1} → statement M
-put_card_spec = tie.close (tie.spec (search rules) (search rules) (search rules) (search rules) returns)
