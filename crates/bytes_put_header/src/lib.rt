@@ -13,6 +13,7 @@ use bytes_put_header_start::{put_counts, put_front};
 use bytes_read::{put_u8, put_u16, put_u32};
 
 // How many bytes the header has, as it says itself.
+#[tactic(auto, using(crate::proofs::Fields::size_plain, crate::proofs::Fields::size_cards))]
 fn size_field(version: u8) -> u16
     requires { (2 ≤ version) × (version ≤ 4) }
     ensures { result ≡ header_size version }
@@ -45,6 +46,7 @@ fn put_period(buffer: &mut [u8], period: u32)
 }
 
 // The header.
+#[tactic(auto, using(crate::proofs::Fields::size_least, crate::proofs::Fields::size_cards))]
 pub fn put_header(buffer: &mut [u8], header: Header)
     requires { (header_size header.version ≤ length buffer.old) × (2 ≤ header.version) × (header.version ≤ 4) × (header.frame_start < 4294967296) }
     ensures { buffer.new ≡ put (bytes_of_all (header_fields header)) 0 buffer.old }
