@@ -4,15 +4,7 @@ use Rattle.base_format.specs.declared.header.Header.{Header}
 use Rattle.base_format.specs.Bytes.{bytes_of_all}
 use Rattle.base_format.specs.Checked.{Checked, ok, refuse, mapped, ◌>>◌}
 use Rattle.base_format.specs.Lent.{lent_after}
-use Rattle.base_format.specs.Rule.{refusal}
 use Rattle.index_laws.specs.Built.{built_fields}
-use Rattle.index_build.specs.declared.Indexed.{Indexed}
-use Rattle.index_build.specs.declared.Indexed.TheVariants.{Built, Refused}
-
--- the length of the index, or the refusal
-abbrev pub indexed_of : Indexed → Checked ℕ
-indexed_of (Built size) = ok size
-indexed_of (Refused r) = refusal r
 
 -- the answer for a result, and the lent buffer before and after it
 abbrev pub Into : Checked (List ℕ) → (answer : Checked ℕ) → (buffer buffer' : List ℕ) → Type 0

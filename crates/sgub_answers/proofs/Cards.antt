@@ -1,20 +1,13 @@
 -- Laws of the cards of a table: those behind its count are all 0.
-use Prim.Native.Nat.{ℕ, zero, suc, ◌-◌, ◌<◌}
+use Prim.Native.Nat.{ℕ, zero, suc, ◌-◌}
 use mathlib.Core.List.{List, [], ◌∷◌, ◌++◌}
 use mathlib.Core.Path.{◌≡◌, refl}
-use native.Mathlib.Nat.{le_of_suc-le-suc, not-suc-le-zero}
 use lib.ListN.{length, get_or, replicate}
 use Rattle.base_format.specs.Checked.{ok}
 use Rattle.base_format.specs.State.{no_card, table_of}
 use Rattle.base_format.specs.Stream.{Stream, read}
 use Rattle.check_file.specs.Answer.{recorded}
 use Rattle.sgub_answers.specs.Surface.{card_on}
-
--- an element that a list has is the same whatever stands for one that it has not
-pub get_d_any : {A : Type 0} (l : List A) (i : ℕ) (d d' : A) → i < length l → get_or l i d ≡ get_or l i d'
-get_d_any [] i d d' h = absurd (not-suc-le-zero h)
-get_d_any (x ∷ l) zero d d' h = refl
-get_d_any (x ∷ l) (suc i) d d' h = get_d_any l i d d' (le_of_suc-le-suc h)
 
 -- behind a list stands what stands for an element that it has not
 padded : {A : Type 0} (l : List A) (n i : ℕ) (d : A) → get_or (l ++ replicate n d) i d ≡ get_or l i d
@@ -25,6 +18,6 @@ padded (x ∷ l) n zero d = refl
 padded (x ∷ l) n (suc i) d = padded l n i d
 
 -- the card that is told of an accepted file is the stream's, and all 0 from their count on
-pub card_told : (file : List ℕ) (s : Stream) (index : ℕ) → read file ≡ ok s → (card_on (recorded file).0 index).card ≡ get_or s.cards index no_card
+pub card_told : (file : List ℕ) (s : Stream) (index : ℕ) → read file ≡ ok s → (card_on (recorded file) index).card ≡ get_or s.cards index no_card
 unfolding table_of
 card_told file s index e = rw e (padded s.cards (8 - length s.cards) index no_card)

@@ -4,7 +4,7 @@ use Rattle.base_format.specs.declared.header.Header.{Header}
 use Rattle.base_format.specs.declared.pool.Pool.{Pool}
 use Rattle.base_format.specs.Checked.{Checked, ok, refused}
 use Rattle.base_format.specs.State.{no_card}
-use Rattle.check_file.specs.Answer.{Recorded}
+use Rattle.check_file.specs.declared.check.Recorded.{Recorded}
 use Rattle.sgub_answers.specs.declared.verdict.SgubVerdict.{SgubVerdict}
 use Rattle.sgub_answers.specs.declared.card.SgubCard.{SgubCard}
 use Rattle.sgub_answers.specs.declared.pool.SgubPool.{SgubPool}

@@ -1,12 +1,12 @@
 // The verdict on a file with one of its cards.
 ghost use Rattle.std.specs.Prelude.{◌≡◌, get_or};
+ghost use Rattle.base_format.specs.Rule.{answer_of};
 ghost use Rattle.base_format.specs.State.{no_card};
-ghost use Rattle.check_file.specs.Answer.{file_check_of};
 ghost use Rattle.sgub_answers.specs.Surface.{card_on};
 
-use base_format::{CardRequirement, CardTable};
+use base_format::{CardRequirement, CardTable, Refusal};
 use base_state::no_card;
-use check_file::{FileAnswer, FileCheck};
+use check_file::Recorded;
 
 // A card; all 0 from the card count on, and where the file is refused.
 #[repr(C)]
@@ -21,38 +21,25 @@ pub struct SgubCard {
 fn card_at(table: CardTable, index: usize) -> CardRequirement
     ensures { result ≡ get_or table.cards index no_card }
 {
-    if index < 8 {
-        let card = table.cards[index];
-        return card;
+    match table.cards.get(index) {
+        Some(card) => *card,
+        None => no_card(),
     }
-    no_card()
 }
 
-pub fn card_of(checked: FileCheck, index: usize) -> SgubCard
-    ensures { result ≡ card_on (file_check_of checked).0 index }
+pub fn card_of(checked: Result<Recorded, Refusal>, index: usize) -> SgubCard
+    ensures { result ≡ card_on (answer_of checked) index }
 {
-    let table = checked.cards;
-    let answer = checked.answer;
-    match answer {
-        FileAnswer::Accepted {
-            header: _,
-            uses_si22: _,
-        } => {
-            let card = card_at(table, index);
-            SgubCard {
-                number: 0,
-                place: 0,
-                card: card,
-            }
-        }
-        FileAnswer::Refused(refusal) => {
-            let rule = refusal.rule;
-            let card = no_card();
-            SgubCard {
-                number: base_refusal::number(rule),
-                place: refusal.place as u64,
-                card: card,
-            }
-        }
+    match checked {
+        Ok(found) => SgubCard {
+            number: 0,
+            place: 0,
+            card: card_at(found.cards, index),
+        },
+        Err(refusal) => SgubCard {
+            number: u32::from(refusal.rule),
+            place: refusal.place as u64,
+            card: no_card(),
+        },
     }
 }

@@ -1,14 +1,14 @@
 // The verdict on a file as plain numbers.
 ghost use Rattle.std.specs.Prelude.{◌≡◌};
-ghost use Rattle.check_file.specs.Answer.{file_check_of};
+ghost use Rattle.base_format.specs.Rule.{answer_of};
 ghost use Rattle.sgub_answers.specs.Surface.{accepted_as, verdict_on};
 
-use base_format::Header;
-use check_file::{FileAnswer, FileCheck};
+use base_format::{Header, Refusal};
+use check_file::Recorded;
 
 // The verdict on a file. Where it is refused, all that follows the place is 0.
 #[repr(C)]
-#[derive(Clone, Copy)]
+#[derive(Clone, Copy, Default)]
 pub struct SgubVerdict {
     pub number: u32,
     pub place: u64,
@@ -48,30 +48,15 @@ fn accepted(header: Header, uses_si22: bool) -> SgubVerdict
     }
 }
 
-pub fn verdict_of(checked: FileCheck) -> SgubVerdict
-    ensures { result ≡ verdict_on (file_check_of checked).0 }
+pub fn verdict_of(checked: Result<Recorded, Refusal>) -> SgubVerdict
+    ensures { result ≡ verdict_on (answer_of checked) }
 {
-    let answer = checked.answer;
-    match answer {
-        FileAnswer::Accepted { header, uses_si22 } => accepted(header, uses_si22),
-        FileAnswer::Refused(refusal) => {
-            let rule = refusal.rule;
-            SgubVerdict {
-                number: base_refusal::number(rule),
-                place: refusal.place as u64,
-                version: 0,
-                repeats: false,
-                uses_si22: false,
-                card_count: 0,
-                frame_period: 0,
-                frame_count: 0,
-                pool_count: 0,
-                initial_count: 0,
-                directory_offset: 0,
-                initial_start: 0,
-                frame_start: 0,
-                total_size: 0,
-            }
-        }
+    match checked {
+        Ok(found) => accepted(found.header, found.uses_si22),
+        Err(refusal) => SgubVerdict {
+            number: u32::from(refusal.rule),
+            place: refusal.place as u64,
+            ..SgubVerdict::default()
+        },
     }
 }

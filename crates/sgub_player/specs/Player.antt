@@ -1,6 +1,5 @@
 -- What the library's structs hold of a start, and of a wave source.
-use Rattle.std.specs.Prelude.{ℕ, true}
-use Rattle.std.proofs.Math.Option.{Option, none, some}
+use Rattle.std.specs.Prelude.{ℕ, true, Option, Some, None}
 use Rattle.base_format.specs.Checked.{Checked, ok, refused}
 use Rattle.base_format.specs.declared.player.StreamPlayer.{StreamPlayer}
 use Rattle.base_format.specs.declared.player.WaveSource.{WaveSource}
@@ -14,5 +13,5 @@ start_fields (refused number place) player = record { number = number; place = p
 
 -- a pool, or none
 abbrev pub source_fields : Option ℕ → WaveSource
-source_fields none = no_wave
-source_fields (some id) = record { copied = true; pool = id }
+source_fields None = no_wave
+source_fields (Some id) = record { copied = true; pool = id }

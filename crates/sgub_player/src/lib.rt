@@ -2,13 +2,11 @@
 #![tactic(auto)]
 
 ghost use Rattle.std.specs.Prelude.{◌≡◌};
-ghost use Rattle.base_format.specs.Rule.{verdict_of};
-ghost use Rattle.play_wave_source.specs.Copied.{copied_pool_of};
+ghost use Rattle.base_format.specs.Rule.{answer_of};
 ghost use Rattle.sgub_player.specs.Player.{start_fields, source_fields};
 
-use base_format::{StreamPlayer, Verdict, WaveSource};
+use base_format::{StreamPlayer, WaveSource};
 use play_start::Started;
-use play_wave_source::CopiedPool;
 
 // The verdict on a file, and the player's state; that of a refused file is finished.
 #[repr(C)]
@@ -20,39 +18,29 @@ pub struct SgubStarted {
 }
 
 pub fn started_of(found: Started) -> SgubStarted
-    ensures { result ≡ start_fields (verdict_of found.verdict) found.state }
+    ensures { result ≡ start_fields (answer_of found.verdict) found.state }
 {
     let player = found.state;
-    let verdict = found.verdict;
-    match verdict {
-        Verdict::Allowed => SgubStarted {
+    match found.verdict {
+        Ok(()) => SgubStarted {
             number: 0,
             place: 0,
-            player: player,
+            player,
         },
-        Verdict::Refused(refusal) => {
-            let rule = refusal.rule;
-            SgubStarted {
-                number: base_refusal::number(rule),
-                place: refusal.place as u64,
-                player: player,
-            }
-        }
+        Err(refusal) => SgubStarted {
+            number: u32::from(refusal.rule),
+            place: refusal.place as u64,
+            player,
+        },
     }
 }
 
 // Not copied, and 0, where no pool was.
-pub fn source_of(answer: CopiedPool) -> WaveSource
-    ensures { result ≡ source_fields (copied_pool_of answer) }
+pub fn source_of(answer: Option<u16>) -> WaveSource
+    ensures { result ≡ source_fields answer }
 {
-    match answer {
-        CopiedPool::None => WaveSource {
-            copied: false,
-            pool: 0,
-        },
-        CopiedPool::Pool(id) => WaveSource {
-            copied: true,
-            pool: id,
-        },
+    WaveSource {
+        copied: answer.is_some(),
+        pool: answer.unwrap_or(0),
     }
 }

@@ -1,46 +1,32 @@
 -- The pools that are listed: of an accepted file each entry names its pool's kind and payload, and of a refused file nothing is stored.
 use Prim.Native.Nat.{ℕ, ◌<◌, min}
 use mathlib.Core.List.{List}
-use mathlib.Core.Path.{◌≡◌, refl, sym, ap, ◌∙◌}
+use mathlib.Core.Path.{◌≡◌, sym, ap, ◌∙◌}
 use native.Mathlib.Nat.{zero-add}
 use native.Mathlib.Omega.{arith}
 use borrow.Author.Tests.{lt-ltb}
 use lib.ListN.{length, get_or, get_or-append}
 use Rattle.base_format.specs.declared.pool.Pool.{Pool}
 use Rattle.base_format.specs.Bytes.{part}
-use Rattle.base_format.specs.Checked.{Checked, ok, refused}
+use Rattle.base_format.specs.Checked.{ok}
 use Rattle.base_format.specs.Header.{header_of}
-use Rattle.base_format.specs.Lent.{stored}
 use Rattle.base_format.specs.Lookup.{pool_kind, pool_payload}
 use Rattle.base_format.specs.Pool.{pool_at}
 use Rattle.base_format.specs.Stream.{Stream, read}
-use Rattle.check_file.specs.Answer.{Recorded, recorded}
+use Rattle.check_file.specs.Answer.{recorded}
 use Rattle.check_pool_entry.specs.Entry.{entry_of}
 use Rattle.check_pool_lookup.proofs.Pools.{kind_found, payload_found}
 use Rattle.sgub_pool_list.specs.declared.SgubPoolEntry.{SgubPoolEntry}
 use Rattle.sgub_pool_list.specs.Entries.{listed_entry, entries_from, entries_stored}
-use Rattle.sgub_pool_list.specs.Listing.{pools_on, listing_on, pools_after}
+use Rattle.sgub_pool_list.specs.Listing.{pools_after}
 use Rattle.sgub_pool_list.proofs.Stored.{entries_long, entry_at}
-
--- what the code stores by the listing, and what it answers
-
-pub run_is : (file : List ℕ) (found : Checked Recorded) (run : List SgubPoolEntry) → entries_stored file (listing_on found).directory (listing_on found).count run ≡ pools_after file found run
-unfolding entries_stored entries_from
-run_is file (ok found) run = refl
-run_is file (refused number place) run =
-    let none : min (length run) 0 ≡ 0 = omega arith in
-    ap (λ (n : ℕ). stored (entries_from file 0 n 0) run) none
-
-pub answer_is : (found : Checked Recorded) → (listing_on found).answer ≡ pools_on found
-answer_is (ok found) = refl
-answer_is (refused number place) = refl
 
 -- an entry of the list
 
 module _ (file : List ℕ) (s : Stream) (accepted : read file ≡ ok s) (run : List SgubPoolEntry) (i : ℕ) (d : SgubPoolEntry)
     (less : i < min (length run) (header_of file).pool_count) where
   abbrev entry : SgubPoolEntry
-  entry = get_or (pools_after file (recorded file).0 run) i d
+  entry = get_or (pools_after file (recorded file) run) i d
 
   listed : entry ≡ listed_entry (pool_at file (header_of file).directory_offset i)
   unfolding entries_stored

@@ -3,13 +3,12 @@
 
 mod listing;
 
-ghost use Rattle.std.specs.Prelude.{◌≡◌, ◌<◌, ◌^◌, min};
-ghost use Rattle.base_format.specs.Pool.{pool_at};
+ghost use Rattle.std.specs.Prelude.{◌≡◌};
 ghost use Rattle.sgub_pool_list.specs.Entries.{listed_entry, entries_stored};
 
-use bytes_read::smaller;
+use base_format::Pool;
 use check_pool_entry::read_pool;
-pub use listing::{PoolListing, SgubPools, pool_listing};
+pub use listing::{SgubPools, list_pools};
 
 // An entry of the directory.
 #[repr(C)]
@@ -20,23 +19,15 @@ pub struct SgubPoolEntry {
     pub offset: u32,
 }
 
-// How many entries are stored: all of them, or as many as the run holds.
-fn fitting(room: usize, count: u32) -> usize
-    ensures { result ≡ min room count }
-{
-    smaller(room, count as usize)
-}
+impl From<Pool> for SgubPoolEntry {
+    ghost from_gives = { λ pool entry. entry ≡ listed_entry pool };
 
-// The entry of a pool by its id.
-fn nth_entry(file: &[u8], directory: u32, id: usize) -> SgubPoolEntry
-    requires { id < 2 ^ 32 }
-    ensures { result ≡ listed_entry (pool_at file.now directory id) }
-{
-    let pool = read_pool(file, directory, id as u32);
-    SgubPoolEntry {
-        kind: pool.kind,
-        size: pool.size,
-        offset: pool.offset,
+    fn from(pool: Pool) -> SgubPoolEntry {
+        SgubPoolEntry {
+            kind: pool.kind,
+            size: pool.size,
+            offset: pool.offset,
+        }
     }
 }
 
@@ -44,11 +35,7 @@ fn nth_entry(file: &[u8], directory: u32, id: usize) -> SgubPoolEntry
 pub fn store_pools(run: &mut [SgubPoolEntry], file: &[u8], directory: u32, count: u32)
     ensures { run.new ≡ entries_stored file.now directory count run.old }
 {
-    let stop = fitting(run.len(), count);
-    let mut i = 0;
-    while i < stop {
-        let entry = nth_entry(file, directory, i);
-        run[i] = entry;
-        i = i + 1;
+    for id in 0..run.len().min(count as usize) {
+        run[id] = SgubPoolEntry::from(read_pool(file, directory, id as u32));
     }
 }

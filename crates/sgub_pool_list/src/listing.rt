@@ -1,9 +1,10 @@
-// What a listing of pools says of the file.
+// What a listing of pools says of the file, and stores of it.
 ghost use Rattle.std.specs.Prelude.{◌≡◌};
 ghost use Rattle.check_file.specs.Answer.{recorded};
-ghost use Rattle.sgub_pool_list.specs.Listing.{listing_on};
+ghost use Rattle.sgub_pool_list.specs.Listing.{pools_on, pools_after};
 
-use check_file::{FileAnswer, check_file};
+use crate::{SgubPoolEntry, store_pools};
+use check_file::check_file;
 
 // The verdict on a file, and how many pools it has.
 #[repr(C)]
@@ -14,48 +15,24 @@ pub struct SgubPools {
     pub count: u64,
 }
 
-// The same, with the directory whose entries are to be stored: of a refused file there are none.
-#[derive(Clone, Copy)]
-pub struct PoolListing {
-    pub answer: SgubPools,
-    pub directory: u32,
-    pub count: u32,
-}
-
-// Checks the whole file.
-pub fn pool_listing(file: &[u8]) -> PoolListing
-    ensures { result ≡ listing_on (recorded file.now).0 }
+// Checks the whole file, and stores its entries: as many as the run holds, and none of a refused file.
+pub fn list_pools(file: &[u8], run: &mut [SgubPoolEntry]) -> SgubPools
+    ensures { (result ≡ pools_on (recorded file.now)) × (run.new ≡ pools_after file.now (recorded file.now) run.old) }
 {
-    let checked = check_file(file);
-    let answer = checked.answer;
-    match answer {
-        FileAnswer::Accepted {
-            header,
-            uses_si22: _,
-        } => {
-            let pools = SgubPools {
+    match check_file(file) {
+        Ok(found) => {
+            let header = found.header;
+            store_pools(run, file, header.directory_offset, header.pool_count);
+            SgubPools {
                 number: 0,
                 place: 0,
                 count: header.pool_count as u64,
-            };
-            PoolListing {
-                answer: pools,
-                directory: header.directory_offset,
-                count: header.pool_count,
             }
         }
-        FileAnswer::Refused(refusal) => {
-            let rule = refusal.rule;
-            let pools = SgubPools {
-                number: base_refusal::number(rule),
-                place: refusal.place as u64,
-                count: 0,
-            };
-            PoolListing {
-                answer: pools,
-                directory: 0,
-                count: 0,
-            }
-        }
+        Err(refusal) => SgubPools {
+            number: u32::from(refusal.rule),
+            place: refusal.place as u64,
+            count: 0,
+        },
     }
 }
