@@ -2,7 +2,7 @@
 // checked again: this is for operations that an earlier pass has checked.
 #![tactic(auto)]
 
-ghost use Rattle.std.specs.Prelude.{◌≡◌, ◌+◌, ◌-◌, ◌^◌, ◌<◌, ◌≤◌};
+ghost use Rattle.std.specs.Prelude.{◌≡◌, ◌+◌, ◌^◌, ◌<◌, ◌≤◌};
 ghost use Rattle.base_format.specs.Size.{operation_most};
 ghost use Rattle.play_fast_fill_records.specs.Records.{fill_place, following, first_record, next_fill};
 
@@ -33,8 +33,8 @@ pub fn fill_place(cursor: usize, made: u32) -> FillPlace
         address: 0,
         value: 0,
         left: 0,
-        cursor: cursor,
-        made: made,
+        cursor,
+        made,
     }
 }
 
@@ -53,18 +53,9 @@ fn following(place: FillPlace) -> FillPlace
     }
 }
 
-// How many records come behind the first one that is not made yet.
-fn others(count: u32, made: u32) -> u32
-    ensures { result ≡ count - made - 1 }
-{
-    if count <= made {
-        return 0;
-    }
-    count - made - 1
-}
-
 // The first record that is not made yet of the WRITE or FILL in some bytes. The size asks for the opcode alone, and so it comes first; then the
 // numbers in the file's order.
+#[tactic(auto, unfolding(bytes_operation::specs::Decoded::decoded_operation))]
 fn first_record(bytes: &[u8], width: usize, place: FillPlace) -> FillPlace
     requires { (3 ≤ width) × (width ≤ 4) × (place.cursor + operation_most < 2 ^ 64) }
     ensures { result ≡ first_record width bytes.now place }
@@ -78,13 +69,14 @@ fn first_record(bytes: &[u8], width: usize, place: FillPlace) -> FillPlace
         target,
         address: wrapping_add_u32(address, place.made),
         value,
-        left: others(length, place.made),
+        left: length.saturating_sub(place.made).saturating_sub(1),
         cursor: place.cursor + size,
         made: 0,
     }
 }
 
 // The next record. Where fewer than 16 bytes stand at the cursor there is none.
+#[tactic(auto, unfolding(crate::specs::Records::next_fill))]
 pub fn next_fill(file: &[u8], version: u8, place: FillPlace) -> FillPlace
     ensures { result ≡ next_fill file.now version place }
 {
