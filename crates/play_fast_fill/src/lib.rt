@@ -23,7 +23,9 @@ pub struct FillsTaken {
     pub writes: u32,
 }
 
-// How many writes the operation in 16 bytes makes if it is a WRITE or a FILL that the ranges allow, else 0.
+// How many writes the operation in 16 bytes makes if it is a WRITE or a FILL that the ranges allow, else 0. It is no Option: a count of
+// 0 makes no write, and the caller's one test of the count against the writes that are made covers both.
+#[tactic(auto, unfolding(crate::specs::Fills::fill_count, bytes_operation::specs::Decoded::decoded_operation), using(bytes_operation_known::proofs::Laws::fill_length_lem))]
 fn fill_count(bytes: &[u8], width: usize, starts: &[u32; RANGES], ends: &[u64; RANGES]) -> u32
     requires { (3 ≤ width) × (width ≤ 4) }
     ensures { result ≡ fill_count (decoded_operation width bytes.now) starts.now ends.now }
