@@ -24,23 +24,19 @@ pub struct Layout {
 }
 
 // One pool for PCM bytes, if there are any.
+#[tactic(auto, using(crate::proofs::Numbers::no_pool_lem, crate::proofs::Numbers::some_pool))]
 pub fn pcm_pool(pcm: usize) -> usize
     ensures { (result ≡ pcm_pool pcm) × (result ≤ 1) }
 {
-    if pcm == 0 {
-        return 0;
-    }
-    1
+    pcm.min(1)
 }
 
 // One FILL, if PCM was written and less than all of it.
+#[tactic(auto, using(crate::proofs::Numbers::fills_none, crate::proofs::Numbers::fills_full, crate::proofs::Numbers::fills_some))]
 fn pcm_fill_count(pcm: usize) -> usize
     ensures { (result ≡ length (pcm_fill pcm)) × (result ≤ 1) }
 {
-    if pcm == 0 {
-        return 0;
-    }
-    if PCM_SIZE <= pcm {
+    if pcm == 0 || PCM_SIZE <= pcm {
         return 0;
     }
     1
@@ -55,6 +51,7 @@ fn writes_size(count: usize) -> usize
 }
 
 // The layout of a master of so many opening records, of which so many go to PCM, with so many waves; its frames take `size` bytes.
+#[tactic(auto, unfolding(crate::specs::Layout::layout_of))]
 pub fn lay_out(records: usize, pcm: usize, waves: usize, size: usize) -> Layout
     requires { (pcm ≤ records) × (records ≤ file_limit) × (waves ≤ 11468) × (size ≤ 0x2000000) }
     ensures { result ≡ layout_of records pcm waves size }
@@ -75,6 +72,7 @@ pub fn lay_out(records: usize, pcm: usize, waves: usize, size: usize) -> Layout
 }
 
 // The header of a repacked file.
+#[tactic(auto, unfolding(crate::specs::Layout::new_header))]
 pub fn new_header(header: Header, layout: Layout) -> Header
     requires { (layout.total ≤ file_limit) × (layout.opening ≤ layout.total) × (layout.pools ≤ layout.total) × (layout.operations ≤ layout.total) }
     ensures { result ≡ new_header header layout }

@@ -7,11 +7,14 @@ use native.Mathlib.Nat.{zero-add}
 use native.Mathlib.Omega.{arith}
 use borrow.Author.Tests.{eq-eqb, lt-ltb, le-ltb}
 use lib.ListN.{length, drop, length-map}
+use Rattle.std.specs.Prelude.{Ok, Err}
 use Rattle.base_format.specs.declared.header.Header.{Header}
+use Rattle.base_format.specs.declared.rule.Refusal.{Refusal}
 use Rattle.base_format.specs.declared.operation.Operation.{Operation}
 use Rattle.base_format.specs.Checked.{Checked, ok, refused, refuse, mapped, ◌>>◌}
 use Rattle.base_format.specs.Lent.{lent_after}
 use Rattle.base_format.specs.Repack.{value, to_pcm, in_order, repacked, repack, repack_into}
+use Rattle.base_format.specs.Rule.{refusal}
 use Rattle.base_format.specs.Stream.{Stream, read}
 use Rattle.base_format.specs.Written.{written}
 use Rattle.base_format.proofs.Accepted.{accepted}
@@ -22,20 +25,17 @@ use Rattle.base_master.specs.Places.{records_at, master_of}
 use Rattle.base_master.specs.Result.{pcm_from, pcm_bytes}
 use Rattle.repack_measure.specs.Measured.{Measured}
 use Rattle.base_master.proofs.Master.{Lies, IsMaster, is_master, repacked_master}
-use Rattle.repack_ordered.specs.declared.Repacked.{Repacked}
-use Rattle.repack_ordered.specs.declared.Repacked.TheVariants.{Written}
-use Rattle.repack_ordered.specs.Answer.{repacked_of, Taken, Ordered, Repacks}
+use Rattle.repack_ordered.specs.Answer.{Taken, Ordered, Repacks}
 use Rattle.repack_layout.specs.Layout.{Known}
 
 -- a refusal writes nothing
-pub refuses : (file buffer : List ℕ) (number place : ℕ) (answer : Repacked) → repack_into file (length buffer) ≡ refused number place → repacked_of answer ≡ refused number place
-    → Repacks file buffer buffer answer
-refuses file buffer number place answer e a =
-    (a ∙ ap (mapped length) (sym e), ap (λ (x : Checked (List ℕ)). lent_after (λ (result : List ℕ). result) x buffer) (sym e))
+pub refuses : (file buffer : List ℕ) (r : Refusal) → repack_into file (length buffer) ≡ refusal r → Repacks file buffer buffer (Err r)
+refuses file buffer r e =
+    (ap (mapped length) (sym e), ap (λ (x : Checked (List ℕ)). lent_after (λ (result : List ℕ). result) x buffer) (sym e))
 
 -- the result stands at the buffer's start
 pub writes : (file buffer buffer' result : List ℕ) (size : ℕ) → repack_into file (length buffer) ≡ ok result → length result ≡ size → size ≤ length buffer → buffer' ≡ put result 0 buffer
-    → Repacks file buffer buffer' (Written size)
+    → Repacks file buffer buffer' (Ok size)
 writes file buffer buffer' result size e long room puts =
     let stands : put result 0 buffer ≡ result ++ drop (length result) buffer = put_fits result 0 buffer (omega arith) ∙ rw zero-add in
     (ap ok (sym long) ∙ ap (mapped length) (sym e), puts ∙ stands ∙ ap (λ (x : Checked (List ℕ)). lent_after (λ (r : List ℕ). r) x buffer) (sym e))

@@ -1,8 +1,7 @@
 // The answer of repacking, and the last of its stages: a master whose PCM records run in order, by the refusals 23 and 24.
 #![tactic(auto)]
 
-ghost use Rattle.std.specs.Prelude.{◌≡◌};
-ghost use Rattle.repack_ordered.specs.Answer.{repacked_of, refused_by, Ordered, Repacks};
+ghost use Rattle.repack_ordered.specs.Answer.{Ordered, Repacks};
 
 use base_format::{FILE_LIMIT, Header, MASTER_HEADER_SIZE, RECORD_SIZE, Refusal, Rule};
 use repack_layout::lay_out;
@@ -10,22 +9,14 @@ use repack_measure::{SPOTS, measure_frames};
 use repack_put_file::write_master;
 use repack_wave_table::{BUCKETS, MOST};
 
-// The length of the repacked file, or the refusal.
-#[derive(Clone, Copy)]
-pub enum Repacked {
-    Written(usize),
-    Refused(Refusal),
-}
-
-// A refusal of the whole file.
-pub fn refused(rule: Rule) -> Repacked
-    ensures { repacked_of result ≡ refused_by rule }
-{
-    Repacked::Refused(Refusal { rule, place: 0 })
-}
-
-// A master whose PCM records run 0, 1, 2 and so on: it is measured first, and written only where it fits.
-pub fn repack_measured(file: &[u8], header: Header, pcm: usize, buffer: &mut [u8]) -> Repacked
+// A master whose PCM records run 0, 1, 2 and so on: it is measured first, and written only where it fits. The answer is the length of the
+// repacked file, or the refusal.
+pub fn repack_measured(
+    file: &[u8],
+    header: Header,
+    pcm: usize,
+    buffer: &mut [u8],
+) -> Result<usize, Refusal>
     requires { Ordered file.now header pcm }
     ensures { Repacks file.now buffer.old buffer.new result }
 {
@@ -49,13 +40,19 @@ pub fn repack_measured(file: &[u8], header: Header, pcm: usize, buffer: &mut [u8
     );
     let layout = lay_out(records, pcm, found.waves, found.size);
     if (FILE_LIMIT as usize) < layout.total {
-        return refused(Rule::ResultSize);
+        return Err(Refusal {
+            rule: Rule::ResultSize,
+            place: 0,
+        });
     }
     if buffer.len() < layout.total {
-        return refused(Rule::LentSize);
+        return Err(Refusal {
+            rule: Rule::LentSize,
+            place: 0,
+        });
     }
     write_master(
         file, header, pcm, found, layout, &places, &spots, &numbers, buffer,
     );
-    Repacked::Written(layout.total)
+    Ok(layout.total)
 }
