@@ -29,9 +29,14 @@ hashed_next file (suc fours) at hash h =
     let e : suc fours - 1 ≡ fours = omega arith in
     rw e
 
-pub hashed_none : (file : List ℕ) (at hash : ℕ) → hashed file 0 at hash ≡ hash
+pub hashed_end : (file : List ℕ) (fours at hash : ℕ) → fours ≡ 0 → hashed file fours at hash ≡ hash
 unfolding hashed
-hashed_none file at hash = refl
+hashed_end file fours at hash e = rw e
+
+-- no bytes are left to compare
+pub same_end : (file : List ℕ) (left a b : ℕ) → left ≡ 0 → same_bytes (values_at file left a) (values_at file left b) ≡ true
+unfolding values_at
+same_end file left a b e = rw e
 
 pub same_bucket : (file : List ℕ) (a b : ℕ) → same_bytes (wave_at file a) (wave_at file b) ≡ true → bucket_at file a ≡ bucket_at file b
 unfolding bucket_at

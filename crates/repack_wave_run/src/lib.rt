@@ -14,10 +14,9 @@ fn runs_on(records: &[u8], target: u8, address: u32) -> bool
     requires { (length records.now ≡ wave_records_size) × (target < 2) × (address < 0x800) }
     ensures { result ≡ runs 256 target address (records_at records.now 256 0) }
 {
-    let mut left = WAVE_SIZE;
     let mut place: usize = 0;
     let mut head = target as u32 * 0x1000000 + address;
-    while 0 < left {
+    for _i in 0..WAVE_SIZE {
         let record_target = records[place];
         let record_address = read_address(records, 3, place + 1);
         if record_target as u32 * 0x1000000 + record_address != head {
@@ -25,7 +24,6 @@ fn runs_on(records: &[u8], target: u8, address: u32) -> bool
         }
         place += RECORD_SIZE;
         head += 1;
-        left -= 1;
     }
     true
 }
