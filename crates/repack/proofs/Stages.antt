@@ -7,19 +7,36 @@ use borrow.Author.Tests.{eq-eqb, ne_eqb}
 use lib.ListN.{length}
 use Rattle.base_format.specs.declared.header.Header.{Header}
 use Rattle.base_format.specs.declared.operation.Operation.{Operation}
-use Rattle.base_format.specs.Checked.{ok, refused, refuse, ◌>>◌}
-use Rattle.base_format.specs.Repack.{to_pcm, in_order, repack, repack_into}
+use Rattle.base_format.specs.declared.rule.Refusal.{Refusal}
+use Rattle.base_format.specs.Checked.{ok, refused, refuse, mapped, ◌>>◌}
+use Rattle.base_format.specs.Repack.{to_pcm, in_order, repack, repack_into, buffer_after}
+use Rattle.base_format.specs.Rule.{refusal}
 use Rattle.base_format.specs.Stream.{Stream, read}
 use Rattle.base_format.proofs.Checks.{refused_not_ok}
 use Rattle.base_master.specs.Places.{records_at}
 use Rattle.base_master.specs.Result.{pcm_from}
+use Rattle.check_file.specs.declared.check.Recorded.{Recorded}
+use Rattle.check_file.specs.Answer.{recorded}
+use Rattle.check_file.proofs.Answers.{accepted_as_lem, refused_as_lem}
 use Rattle.repack_ordered.specs.Answer.{Taken}
-use Rattle.repack_ordered.proofs.Answers.{version_is, stream_one, opening_is}
+use Rattle.repack_ordered.proofs.Answers.{refuses, version_is, stream_one, opening_is}
 
 -- a refused file
 pub not_read : (file : List ℕ) (room number place : ℕ) → read file ≡ refused number place → repack_into file room ≡ refused number place
 unfolding repack_into repack
 not_read file room number place e = rw e
+
+pub refused_answer : (file : List ℕ) (room : ℕ) (why : Refusal) → refusal why ≡ recorded file → mapped length (repack_into file room) ≡ refusal why
+refused_answer file room why e = ap (mapped length) (not_read file room _ _ (refused_as_lem file why e))
+
+pub refused_buffer : (file buffer : List ℕ) (why : Refusal) → refusal why ≡ recorded file → buffer_after file buffer ≡ buffer
+refused_buffer file buffer why e = sym (refuses file buffer why (not_read file (length buffer) _ _ (refused_as_lem file why e))).1
+
+-- an accepted one
+pub taken : (file : List ℕ) (found : Recorded) → ok found ≡ recorded file → Taken file found.header
+taken file found e =
+    let known = accepted_as_lem file e in
+    record { stream = known.stream; reads = known.reads; header_is = known.header_is }
 
 module _ (file : List ℕ) (s : Stream) (reads : read file ≡ ok s) (room : ℕ) where
   pub not_master : (s.version ≡ 1 → ⊥) → repack_into file room ≡ refused 21 0

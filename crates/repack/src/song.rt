@@ -2,39 +2,43 @@
 ghost use Rattle.std.specs.Prelude.{◌≡◌, length};
 ghost use Rattle.base_format.specs.Checked.{mapped};
 ghost use Rattle.base_format.specs.Repack.{repack_into, buffer_after};
-ghost use Rattle.repack_ordered.specs.Answer.{repacked_of, Taken, Repacks};
+ghost use Rattle.base_format.specs.Rule.{answer_of};
+ghost use Rattle.repack_ordered.specs.Answer.{Taken, Repacks};
 
-use base_format::{Header, Rule};
-use check_file::{FileAnswer, check_file};
-use repack_ordered::{Repacked, refused, repack_measured};
-use repack_put_opening::{PcmRun, pcm_run};
+use base_format::{Header, Refusal, Rule};
+use check_file::check_file;
+use repack_ordered::repack_measured;
+use repack_put_opening::pcm_run;
+
+// The version of a master.
+const MASTER_VERSION: u8 = 1;
 
 // An accepted file.
-fn repack_accepted(file: &[u8], header: Header, buffer: &mut [u8]) -> Repacked
+fn repack_accepted(file: &[u8], header: Header, buffer: &mut [u8]) -> Result<usize, Refusal>
     requires { Taken file.now header }
     ensures { Repacks file.now buffer.old buffer.new result }
 {
-    if header.version != 1 {
-        return refused(Rule::OtherVersion);
+    if header.version != MASTER_VERSION {
+        return Err(Refusal {
+            rule: Rule::OtherVersion,
+            place: 0,
+        });
     }
     match pcm_run(file, header.initial_count as usize) {
-        PcmRun::InOrder(pcm) => repack_measured(file, header, pcm, buffer),
-        PcmRun::OutOfOrder => refused(Rule::PcmOrder),
+        Some(pcm) => repack_measured(file, header, pcm, buffer),
+        None => Err(Refusal {
+            rule: Rule::PcmOrder,
+            place: 0,
+        }),
     }
 }
 
 // A master as a file of version 2: the length of the result, which stands at the buffer's start, or the refusal, with nothing
 // written.
-pub fn compile_song_v2(file: &[u8], buffer: &mut [u8]) -> Repacked
-    ensures { (repacked_of result ≡ mapped length (repack_into file.now (length buffer.old))) × (buffer.new ≡ buffer_after file.now buffer.old) }
+#[tactic(auto, using(base_format::proofs::Answered::passed_on, crate::proofs::Stages::taken, crate::proofs::Stages::refused_answer, crate::proofs::Stages::refused_buffer))]
+pub fn compile_song_v2(file: &[u8], buffer: &mut [u8]) -> Result<usize, Refusal>
+    ensures { (answer_of result ≡ mapped length (repack_into file.now (length buffer.old))) × (buffer.new ≡ buffer_after file.now buffer.old) }
 {
-    let checked = check_file(file);
-    let answer = checked.answer;
-    match answer {
-        FileAnswer::Accepted {
-            header,
-            uses_si22: _,
-        } => repack_accepted(file, header, buffer),
-        FileAnswer::Refused(refusal) => Repacked::Refused(refusal),
-    }
+    let found = check_file(file)?;
+    repack_accepted(file, found.header, buffer)
 }
