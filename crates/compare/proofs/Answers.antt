@@ -7,12 +7,16 @@ use native.Mathlib.Omega.{arith}
 use borrow.Author.Tests.{lt-ltb, le-ltb}
 use lib.Dec.{ltb}
 use lib.ListN.{length, drop, replicate, length-replicate}
+use Rattle.std.specs.Prelude.{Result, Ok, Err, MatchResult}
+use Rattle.std.specs.Result.{IsErrAnd}
 use Rattle.base_format.specs.declared.header.Header.{Header}
+use Rattle.base_format.specs.declared.rule.Refusal.{Refusal}
 use Rattle.base_format.specs.declared.operation.WriteRecord.{WriteRecord}
 use Rattle.base_format.specs.Checked.{Checked, ok, refused, refuse}
 use Rattle.base_format.specs.Compare.{Compared, agreed, refused_file, in_file, read_version, compared, agree, played, image_of, image_after}
 use Rattle.base_format.specs.Header.{header_of}
 use Rattle.base_format.specs.Lent.{stored}
+use Rattle.base_format.specs.Rule.{refusal, answer_of}
 use Rattle.base_format.specs.Size.{pcm_size}
 use Rattle.base_format.specs.Stream.{Stream, read}
 use Rattle.base_format.specs.Writes.{opening_writes}
@@ -22,7 +26,8 @@ use Rattle.compare_image_bytes.proofs.Image.{played_length}
 use Rattle.compare_accepted.specs.Accepted.{FramesWithin, master_drawn, other_drawn, agree_by, Drawn}
 use Rattle.check_version.specs.Answer.{version_header}
 use Rattle.check_version.proofs.Answers.{Has, has, gone}
-use Rattle.compare.specs.Answer.{ComparedWith}
+use Rattle.compare.specs.declared.whole.CompareError.{CompareError}
+use Rattle.compare.specs.Answer.{compared_of, ComparedWith}
 use Rattle.compare_accepted.proofs.Streams.{agree_is, master_image, other_image_lem}
 
 -- THE ANSWER
@@ -73,6 +78,22 @@ module _ (master other : List ℕ) (image image' : ℕ) where
 
     both_agreed : pcm_size ≤ image → pcm_size ≤ image' → compared master other image image' ≡ agreed (agree m.stream o.stream)
     both_agreed h h' = behind_both false false (le-ltb image pcm_size h) (le-ltb image' pcm_size h')
+
+-- WHAT A CHECK'S ANSWER SAYS BEHIND `map_err`
+
+pub told_ok : (Q : Refusal → CompareError → Type 0) {is : Checked Header} (r : Result Header Refusal) (m : Result Header CompareError) (x : Header) → answer_of r ≡ is
+    → MatchResult r (λ (y : Header). m ≡ Ok y) (λ (e : Refusal). IsErrAnd m (Q e)) → m ≡ Ok x → is ≡ ok x
+told_ok Q (Ok y) m x e h w = let same : y ≡ x = cc in sym e ∙ ap ok same
+told_ok Q (Err why) m x e h w = absurd (rw w at h)
+
+pub told_err : (Q : Refusal → CompareError → Type 0) {is : Checked Header} (r : Result Header Refusal) (m : Result Header CompareError) (y : CompareError) → answer_of r ≡ is
+    → MatchResult r (λ (x : Header). m ≡ Ok x) (λ (e : Refusal). IsErrAnd m (Q e)) → m ≡ Err y → (why : Refusal) × (is ≡ refusal why) × Q why y
+told_err Q (Ok x) m y e h w = absurd (let z : ◌≡◌ {A = ℕ} 0 1 = cc in omega arith)
+told_err Q (Err why) m y e h w = (why, sym e, rw w at h)
+
+pub passed_error : (answer : Result Bool CompareError) (y z : CompareError) → IsErrAnd answer (λ (e : CompareError). e ≡ y) → y ≡ z → compared_of answer ≡ compared_of (Err z)
+passed_error (Ok b) y z h e = absurd h
+passed_error (Err x) y z h e = rw (h, e)
 
 -- TWO ACCEPTED FILES
 

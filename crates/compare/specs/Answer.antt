@@ -1,16 +1,15 @@
 -- What the answers of this crate say, and what a comparison leaves.
-use Rattle.std.specs.Prelude.{ℕ, ◌≡◌, true, false, List, length}
+use Rattle.std.specs.Prelude.{ℕ, ◌≡◌, Bool, List, length, Result, Ok, Err}
 use Rattle.base_format.specs.Compare.{Compared, agreed, refused_file, compared, master_image_of, other_image_of}
 use Rattle.base_format.specs.Rule.{number_of}
-use Rattle.compare.specs.declared.whole.Comparison.{Comparison}
-use Rattle.compare.specs.declared.whole.Comparison.TheVariants.{Passed, Failed, MasterRefused, OtherRefused}
+use Rattle.compare.specs.declared.whole.CompareError.{CompareError}
+use Rattle.compare.specs.declared.whole.CompareError.TheVariants.{Master, Other}
 
--- the files agree or do not, or which is refused: 1 for the master, 2 for the other
-abbrev pub compared_of : Comparison → Compared
-compared_of Passed = agreed true
-compared_of Failed = agreed false
-compared_of (MasterRefused r) = refused_file 1 (number_of r.rule) r.place
-compared_of (OtherRefused r) = refused_file 2 (number_of r.rule) r.place
+-- whether the files agree, or which is refused: 1 for the master, 2 for the other
+abbrev pub compared_of : Result Bool CompareError → Compared
+compared_of (Ok agree) = agreed agree
+compared_of (Err (Master r)) = refused_file 1 (number_of r.rule) r.place
+compared_of (Err (Other r)) = refused_file 2 (number_of r.rule) r.place
 
 -- the answer on two files, and what both lent images hold after it
 abbrev pub ComparedWith : Compared → (master other image image' after after' : List ℕ) → Type 0

@@ -4,4 +4,4 @@
 
 mod whole;
 
-pub use whole::{Comparison, compare};
+pub use whole::{CompareError, compare};

@@ -5,10 +5,14 @@ use mathlib.Core.List.{List, ◌++◌}
 use native.Mathlib.Nat.{zero-add}
 use native.Mathlib.Omega.{arith}
 use lib.ListN.{length, drop}
+use Rattle.std.specs.Prelude.{Result, Ok, Err, MatchResult}
+use Rattle.std.specs.Result.{IsErrAnd}
 use Rattle.base_format.specs.declared.header.Header.{Header}
+use Rattle.base_format.specs.declared.rule.Refusal.{Refusal}
 use Rattle.base_format.specs.Bytes.{AllBytes, be}
-use Rattle.base_format.specs.Checked.{ok, refused}
+use Rattle.base_format.specs.Checked.{Checked, ok, refused}
 use Rattle.base_format.specs.Lent.{stored}
+use Rattle.base_format.specs.Rule.{refusal, answer_of}
 use Rattle.base_format.specs.Size.{file_limit}
 use Rattle.base_format.specs.Written.{written}
 use Rattle.bytes_read.specs.Put.{put}
@@ -21,7 +25,8 @@ use Rattle.join_stream.proofs.Refused.{refused_first, refused_second, refused_29
 use Rattle.join_put_second.proofs.Second.{acc, parts, stream_is, first_count_lem}
 use Rattle.join_put_file.specs.File.{BothFit}
 use Rattle.join_put_file.proofs.File.{numbers}
-use Rattle.join.specs.Answer.{JoinedWith}
+use Rattle.join.specs.declared.JoinError.{JoinError}
+use Rattle.join.specs.Answer.{joined_of, JoinedWith}
 
 -- a refusal writes nothing
 pub refuses : (file file' buffer : List ℕ) (answer : Joining ℕ) (named : NamedFile) (n p : ℕ) → join_into file file' (length buffer) ≡ join_refused named n p → answer ≡ join_refused named n p
@@ -37,6 +42,21 @@ pub second_refused : (file file' : List ℕ) (room n p : ℕ) (header : Header) 
 second_refused file file' room n p header accepted e =
     let h = has 2 file header accepted in
     (refused_second file file' room n p h.stream h.here).1 (gone 2 file' n p e)
+
+-- what a check's answer says behind `map_err`
+pub told_ok : (Q : Refusal → JoinError → Type 0) {is : Checked Header} (r : Result Header Refusal) (m : Result Header JoinError) (x : Header) → answer_of r ≡ is
+    → MatchResult r (λ (y : Header). m ≡ Ok y) (λ (e : Refusal). IsErrAnd m (Q e)) → m ≡ Ok x → is ≡ ok x
+told_ok Q (Ok y) m x e h w = let same : y ≡ x = cc in sym e ∙ ap ok same
+told_ok Q (Err why) m x e h w = absurd (rw w at h)
+
+pub told_err : (Q : Refusal → JoinError → Type 0) {is : Checked Header} (r : Result Header Refusal) (m : Result Header JoinError) (y : JoinError) → answer_of r ≡ is
+    → MatchResult r (λ (x : Header). m ≡ Ok x) (λ (e : Refusal). IsErrAnd m (Q e)) → m ≡ Err y → (why : Refusal) × (is ≡ refusal why) × Q why y
+told_err Q (Ok x) m y e h w = absurd (let z : ◌≡◌ {A = ℕ} 0 1 = cc in omega arith)
+told_err Q (Err why) m y e h w = (why, sym e, rw w at h)
+
+pub passed_error : (answer : Result ℕ JoinError) (y z : JoinError) → IsErrAnd answer (λ (e : JoinError). e ≡ y) → y ≡ z → joined_of answer ≡ joined_of (Err z)
+passed_error (Ok size) y z h e = absurd h
+passed_error (Err x) y z h e = rw (h, e)
 
 -- two accepted files of version 2, with the count of the second's first frame
 module _ (file file' : List ℕ) (header header' : Header) (both : (version_header 2 file ≡ ok header) × (version_header 2 file' ≡ ok header')) (bytes : AllBytes file) (bytes' : AllBytes file')

@@ -10,28 +10,41 @@ ghost use Rattle.join.specs.Answer.{joined_of, JoinedWith};
 
 use base_format::{FILE_LIMIT, Header, POOLED_HEADER_SIZE, Refusal, Rule};
 use bytes_read::read_u16;
-use check_version::{VersionCheck, check_version};
+use check_version::check_version;
 use join_put_file::write_joined;
+use std::error::Error;
+use std::fmt;
 
 // The operations that a frame has at most, and the pools that a file has at most.
 const FRAME_MOST: usize = 65535;
 
 const POOLS_MOST: usize = 65536;
 
-// The length of the joined file; or the refusal, of the first file, of the second, or of both together.
-#[derive(Clone, Copy)]
-pub enum Joined {
-    Written(usize),
+// The refusal, of the first file, of the second, or of both together.
+#[derive(Clone, Copy, Debug)]
+pub enum JoinError {
     First(Refusal),
     Second(Refusal),
     Neither(Refusal),
 }
 
+impl fmt::Display for JoinError {
+    fn fmt<W: fmt::Write>(&self, f: &mut fmt::Formatter<W>) -> fmt::Result {
+        match self {
+            JoinError::First(refusal) => write!(f, "the first file is {refusal}"),
+            JoinError::Second(refusal) => write!(f, "the second file is {refusal}"),
+            JoinError::Neither(refusal) => write!(f, "both files together are {refusal}"),
+        }
+    }
+}
+
+impl Error for JoinError {}
+
 // A refusal of both files together.
-fn refused(rule: Rule) -> Joined
+fn refused(rule: Rule) -> Result<usize, JoinError>
     ensures { joined_of result ≡ join_refused in_neither (number_of rule) 0 }
 {
-    Joined::Neither(Refusal { rule, place: 0 })
+    Err(JoinError::Neither(Refusal { rule, place: 0 }))
 }
 
 // Two accepted files of version 2. All numbers are known before anything is written.
@@ -41,7 +54,7 @@ fn join_accepted(
     second: &[u8],
     second_header: Header,
     buffer: &mut [u8],
-) -> Joined
+) -> Result<usize, JoinError>
     requires { (version_header 2 first.now ≡ ok header) × (version_header 2 second.now ≡ ok second_header) }
     ensures { JoinedWith (joined_of result) first.now second.now buffer.old buffer.new }
 {
@@ -62,20 +75,14 @@ fn join_accepted(
         return refused(Rule::LentSize);
     }
     write_joined(first, header, second, second_header, buffer);
-    Joined::Written(size)
+    Ok(size)
 }
 
 // Two files as one: the length of the result, which stands at the buffer's start, or the refusal, with nothing written.
-pub fn join(first: &[u8], second: &[u8], buffer: &mut [u8]) -> Joined
+pub fn join(first: &[u8], second: &[u8], buffer: &mut [u8]) -> Result<usize, JoinError>
     ensures { JoinedWith (joined_of result) first.now second.now buffer.old buffer.new }
 {
-    match check_version(first, 2) {
-        VersionCheck::Refused(refusal) => Joined::First(refusal),
-        VersionCheck::Accepted(header) => match check_version(second, 2) {
-            VersionCheck::Refused(refusal) => Joined::Second(refusal),
-            VersionCheck::Accepted(second_header) => {
-                join_accepted(first, header, second, second_header, buffer)
-            }
-        },
-    }
+    let header = check_version(first, 2).map_err(JoinError::First)?;
+    let second_header = check_version(second, 2).map_err(JoinError::Second)?;
+    join_accepted(first, header, second, second_header, buffer)
 }

@@ -10,7 +10,8 @@ use lib.ListN.{length, length-append, length-map}
 use Rattle.base_format.specs.declared.operation.Operation.{Operation}
 use Rattle.base_format.specs.Bytes.{byte, be, bytes_of, bytes_of_all, u16}
 use Rattle.base_format.specs.Checked.{ok}
-use Rattle.base_format.specs.Operation.{Setting, Item, address_width, fields_at, item_at}
+use Rattle.base_format.specs.declared.operation.Item.{Item}
+use Rattle.base_format.specs.Operation.{Setting, address_width, fields_at, item_at}
 use Rattle.base_format.specs.Stream.{operations_from, frames_from}
 use Rattle.base_format.specs.Written.{item_bytes, operations_bytes, frames_bytes}
 use Rattle.base_format.proofs.Bytes.{length_bytes_of}
