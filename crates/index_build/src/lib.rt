@@ -13,6 +13,7 @@ use index_frames::entry_count;
 use index_put::{put_entries, put_trailer};
 
 // The index by a header, where the buffer holds it.
+#[tactic(auto, using(crate::proofs::Answers::refuses, crate::proofs::Answers::short_room))]
 fn build_accepted(file: &[u8], header: Header, buffer: &mut [u8]) -> Result<usize, Refusal>
     requires { header.frame_start < 2 ^ 32 }
     ensures { Into (built_into header file.now (length buffer.old)) (answer_of result) buffer.old buffer.new }

@@ -1,13 +1,7 @@
 -- The buffer's length decides: then the entries and the trailer are written.
 use Rattle.std.proofs.Common.{arith}
-use Rattle.index_build.proofs.Answers.{refuses, short_room, both_written}
+use Rattle.index_build.proofs.Answers.{both_written}
 use Rattle.index_build.proofs.build_accepted.Goals as goal
-
-pub returns-then-buffer-size : goal.returns-then-buffer-size
-returns-then-buffer-size c =
-    let n = c.entry_count-entries in
-    let a = c.args in
-    refuses a.buffer.now 24 0 (short_room a.header a.file.now a.buffer.now n.result n.ensures (omega arith))
 
 pub returns : goal.returns
 returns c =
