@@ -6,7 +6,7 @@ ghost use Rattle.join.specs.Answer.{joined_of};
 ghost use Rattle.sgub_join.specs.Surface.{joined_on, refused_on};
 
 use base_format::Refusal;
-use join::Joined;
+use join::JoinError;
 
 // Which file is refused (0 none, or both together; 1 the first, 2 the second), by which number and where; and the length of the joined
 // file, which stands at the buffer's start.
@@ -22,27 +22,26 @@ pub struct SgubJoined {
 fn refused(file: u32, refusal: Refusal) -> SgubJoined
     ensures { result ≡ refused_on file refusal }
 {
-    let rule = refusal.rule;
     SgubJoined {
         file,
-        number: base_refusal::number(rule),
+        number: u32::from(refusal.rule),
         place: refusal.place as u64,
         size: 0,
     }
 }
 
-pub fn joined_of(answer: Joined) -> SgubJoined
+pub fn joined_of(answer: Result<usize, JoinError>) -> SgubJoined
     ensures { result ≡ joined_on (joined_of answer) }
 {
     match answer {
-        Joined::Written(size) => SgubJoined {
+        Ok(size) => SgubJoined {
             file: 0,
             number: 0,
             place: 0,
             size: size as u64,
         },
-        Joined::First(refusal) => refused(1, refusal),
-        Joined::Second(refusal) => refused(2, refusal),
-        Joined::Neither(refusal) => refused(0, refusal),
+        Err(JoinError::First(refusal)) => refused(1, refusal),
+        Err(JoinError::Second(refusal)) => refused(2, refusal),
+        Err(JoinError::Neither(refusal)) => refused(0, refusal),
     }
 }

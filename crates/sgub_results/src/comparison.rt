@@ -6,7 +6,7 @@ ghost use Rattle.compare.specs.Answer.{compared_of};
 ghost use Rattle.sgub_results.specs.Surface.{compared_on};
 
 use base_format::Refusal;
-use compare::Comparison;
+use compare::CompareError;
 
 // Which file is refused (0 none, 1 the master, 2 the other), by which number and where; and whether the files agree.
 #[repr(C)]
@@ -21,32 +21,25 @@ pub struct SgubCompared {
 fn refused(file: u32, refusal: Refusal) -> SgubCompared
     ensures { result ≡ compared_on (refused_file file (number_of refusal.rule) refusal.place) }
 {
-    let rule = refusal.rule;
     SgubCompared {
         file,
-        number: base_refusal::number(rule),
+        number: u32::from(refusal.rule),
         place: refusal.place as u64,
         passed: false,
     }
 }
 
-pub fn compared_of(comparison: Comparison) -> SgubCompared
-    ensures { result ≡ compared_on (compared_of comparison) }
+pub fn compared_of(answer: Result<bool, CompareError>) -> SgubCompared
+    ensures { result ≡ compared_on (compared_of answer) }
 {
-    match comparison {
-        Comparison::Passed => SgubCompared {
+    match answer {
+        Ok(passed) => SgubCompared {
             file: 0,
             number: 0,
             place: 0,
-            passed: true,
+            passed,
         },
-        Comparison::Failed => SgubCompared {
-            file: 0,
-            number: 0,
-            place: 0,
-            passed: false,
-        },
-        Comparison::MasterRefused(refusal) => refused(1, refusal),
-        Comparison::OtherRefused(refusal) => refused(2, refusal),
+        Err(CompareError::Master(refusal)) => refused(1, refusal),
+        Err(CompareError::Other(refusal)) => refused(2, refusal),
     }
 }

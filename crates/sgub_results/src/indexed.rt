@@ -1,9 +1,9 @@
 // The answer of building an index as plain numbers.
 ghost use Rattle.std.specs.Prelude.{◌≡◌};
-ghost use Rattle.index_build.specs.Answer.{indexed_of};
+ghost use Rattle.base_format.specs.Rule.{answer_of};
 ghost use Rattle.sgub_results.specs.Surface.{indexed_on};
 
-use index_build::Indexed;
+use base_format::Refusal;
 
 // The length of the index, which stands at the buffer's start; or the refusal, with nothing written.
 #[repr(C)]
@@ -14,22 +14,19 @@ pub struct SgubIndexed {
     pub size: u64,
 }
 
-pub fn indexed_of(answer: Indexed) -> SgubIndexed
-    ensures { result ≡ indexed_on (indexed_of answer) }
+pub fn indexed_of(answer: Result<usize, Refusal>) -> SgubIndexed
+    ensures { result ≡ indexed_on (answer_of answer) }
 {
     match answer {
-        Indexed::Built(size) => SgubIndexed {
+        Ok(size) => SgubIndexed {
             number: 0,
             place: 0,
             size: size as u64,
         },
-        Indexed::Refused(refusal) => {
-            let rule = refusal.rule;
-            SgubIndexed {
-                number: base_refusal::number(rule),
-                place: refusal.place as u64,
-                size: 0,
-            }
-        }
+        Err(refusal) => SgubIndexed {
+            number: u32::from(refusal.rule),
+            place: refusal.place as u64,
+            size: 0,
+        },
     }
 }
