@@ -7,6 +7,7 @@ use mathlib.Core.List.{List}
 use lib.Dec.{ltb}
 use lib.ListN.{length, take, drop}
 use lib.Seq.{take_at}
+use Rattle.std.specs.Prelude.{Ok}
 use Rattle.base_format.specs.Bytes.{AllBytes}
 use Rattle.base_format.specs.Checked.{Checked, ok, refused, mapped}
 use Rattle.base_format.specs.Compare.{compared, agreed}
@@ -15,7 +16,6 @@ use Rattle.base_format.specs.Repack.{repack, repack_into}
 use Rattle.base_format.specs.Size.{pcm_size}
 use Rattle.base_format.proofs.Checks.{ok_is, refused_not_ok, through, passed_test}
 use Rattle.theorem_one_reading.proofs.Repacked.{repack_passes}
-use Rattle.repack_ordered.specs.declared.Repacked.TheVariants.{Written}
 use Rattle.repack_ordered.specs.Answer.{Repacks}
 
 -- so many bytes at the buffer's start are the repacked file
@@ -29,7 +29,7 @@ into_made file result room e =
     let first = through (repack file) _ e in
     first.is ∙ (passed_test 24 0 (ltb room (length first.value)) first.then).1
 
-pub compiled : (file buffer buffer' : List ℕ) (size : ℕ) → Repacks file buffer buffer' (Written size) → Compiled file buffer' size
+pub compiled : (file buffer buffer' : List ℕ) (size : ℕ) → Repacks file buffer buffer' (Ok size) → Compiled file buffer' size
 compiled file buffer buffer' size answer = go (repack_into file (length buffer)) refl
   where
     go : (x : Checked (List ℕ)) → repack_into file (length buffer) ≡ x → Compiled file buffer' size
@@ -41,7 +41,7 @@ compiled file buffer buffer' size answer = go (repack_into file (length buffer))
     go (refused number place) e = absurd (refused_not_ok (sym (answer.0 ∙ ap (mapped length) e)))
 
 -- with images long enough the comparison passes it
-pub compiled_passes : (file buffer buffer' : List ℕ) (size image image' : ℕ) → Repacks file buffer buffer' (Written size) → AllBytes file → pcm_size ≤ image → pcm_size ≤ image'
+pub compiled_passes : (file buffer buffer' : List ℕ) (size image image' : ℕ) → Repacks file buffer buffer' (Ok size) → AllBytes file → pcm_size ≤ image → pcm_size ≤ image'
     → compared file (take size buffer') image image' ≡ agreed true
 compiled_passes file buffer buffer' size image image' answer bytes room room' =
     (repack_passes file (take size buffer') image image' bytes (compiled file buffer buffer' size answer).made).1 room room'
