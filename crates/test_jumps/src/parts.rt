@@ -4,6 +4,8 @@ use std::io;
 use std::io::Read;
 use test_vectors::next_number;
 
+const PART: usize = 4096;
+
 // The lengths of the files and of their indexes, and the number of steps.
 #[derive(Clone, Copy)]
 pub(crate) struct Lengths {
@@ -32,40 +34,38 @@ pub(crate) fn read_lengths<R: Read>(input: &mut R, file: u32) -> io::Result<Leng
 
 // Reads one part; false where it is too long, or not all of it is left.
 fn read_part<R: Read>(input: &mut R, buffer: &mut [u8], part: u8, length: u32) -> io::Result<bool> {
-    let at = part as usize * 4096;
-    let end = at + 4096;
+    let at = part as usize * PART;
+    let end = at + PART;
     if buffer.len() < end {
         return Ok(false);
     }
     test_vectors::read_front(input, &mut buffer[at..end], length as usize)
 }
 
+// Reads the four parts.
 pub(crate) fn read_parts<R: Read>(
     input: &mut R,
     buffer: &mut [u8],
     lengths: Lengths,
 ) -> io::Result<bool> {
-    if !read_part(input, buffer, 0, lengths.file)? {
-        return Ok(false);
-    }
-    if !read_part(input, buffer, 1, lengths.other)? {
-        return Ok(false);
-    }
-    if !read_part(input, buffer, 2, lengths.index)? {
-        return Ok(false);
-    }
-    read_part(input, buffer, 3, lengths.other_index)
+    Ok(
+        read_part(input, buffer, 0, lengths.file)?
+            && read_part(input, buffer, 1, lengths.other)?
+            && read_part(input, buffer, 2, lengths.index)?
+            && read_part(input, buffer, 3, lengths.other_index)?,
+    )
+}
+
+// Where a place of a part stands in the buffer; behind its end for none.
+pub(crate) fn place_in(part: u8, place: u16) -> usize {
+    part as usize * PART + place as usize
 }
 
 // So many bytes from the start of a part; the whole buffer where there are fewer.
 pub(crate) fn lent(buffer: &[u8], part: u8, length: usize) -> &[u8] {
-    let at = part as usize * 4096;
-    if buffer.len() < at {
+    let at = part as usize * PART;
+    if buffer.len() < at || buffer.len() - at < length {
         return buffer;
     }
-    if buffer.len() - at < length {
-        return buffer;
-    }
-    let end = at + length;
-    &buffer[at..end]
+    &buffer[at..at + length]
 }

@@ -1,16 +1,24 @@
-// A step's answer, and whether it is the stored one.
-use base_format::{StreamPlayer, WaveSource};
-use test_vectors::mix;
+// A step's answer, and what is stored of it.
+use base_format::{Refusal, StreamPlayer, WaveSource};
+use bytes_read::{byte_at, read_u16, read_u32};
+use test_records::flags;
+use test_vectors::{Answer, BASIS, mix};
 
-// The refusal, or 0 and 0; what a vsync call says, which a jump does not; and the player behind the step. `sum` is made of the records, and
-// then of the wave sources.
+// What a step that is not refused does: a vsync call's count of records, whether the vsync is complete and the number of the records, which a
+// jump does not have; and the player behind the step.
 #[derive(Clone, Copy)]
+pub(crate) struct Played {
+    pub(crate) count: usize,
+    pub(crate) complete: bool,
+    pub(crate) records: u32,
+    pub(crate) next: StreamPlayer,
+}
+
+// The answer's value is the count. `sum` is made of the records, and then of the wave sources.
+#[derive(Clone, Copy, PartialEq, Eq)]
 pub(crate) struct Told {
-    number: u32,
-    place: u64,
-    count: usize,
-    complete: bool,
-    finished: bool,
+    answer: Answer,
+    flags: u8,
     frame: u32,
     sum: u32,
 }
@@ -18,9 +26,10 @@ pub(crate) struct Told {
 // A channel's wave source as a number: 0 for none, else the pool and 1.
 fn source_number(source: WaveSource) -> u32 {
     if source.copied {
-        return source.pool as u32 + 1;
+        source.pool as u32 + 1
+    } else {
+        0
     }
-    0
 }
 
 // The number behind the wave sources.
@@ -32,49 +41,41 @@ fn mix_sources(sum: u32, sources: [WaveSource; 16]) -> u32 {
     mixed
 }
 
-pub(crate) fn told_by(
-    number: u32,
-    place: u64,
-    count: usize,
-    complete: bool,
-    records: u32,
-    next: StreamPlayer,
-) -> Told {
-    let progress = next.progress;
-    let sources = progress.wave_sources;
-    Told {
-        number: number,
-        place: place,
-        count: count,
-        complete: complete,
-        finished: progress.finished,
-        frame: progress.frame_index,
-        sum: mix_sources(records, sources),
+impl Told {
+    // What 32 bytes store of a step.
+    pub(crate) fn read(stored: &[u8]) -> Told {
+        Told {
+            answer: Answer {
+                number: byte_at(stored, 6) as u32,
+                place: read_u16(stored, 20) as usize,
+                value: read_u16(stored, 22) as usize,
+            },
+            flags: byte_at(stored, 5),
+            frame: read_u16(stored, 24) as u32,
+            sum: read_u32(stored, 28),
+        }
     }
-}
 
-// Whether the flags are the stored ones: refused 1, complete 2, finished 4.
-fn flags_stored(told: Told, flags: u8) -> bool {
-    ((told.number != 0) == (flags % 2 == 1))
-        & (told.complete == (flags / 2 % 2 == 1))
-        & (told.finished == (flags / 4 == 1))
-}
-
-pub(crate) fn is_stored(told: Told, stored: &[u8]) -> bool {
-    if !flags_stored(told, bytes_read::byte_at(stored, 5)) {
-        return false;
+    // A refused step leaves the player as it was.
+    pub(crate) fn by(state: StreamPlayer, played: Result<Played, Refusal>) -> (Told, StreamPlayer) {
+        let answer = Answer::from(played.map(|played| played.count));
+        let Played {
+            complete,
+            records,
+            next,
+            ..
+        } = played.unwrap_or(Played {
+            count: 0,
+            complete: false,
+            records: BASIS,
+            next: state,
+        });
+        let told = Told {
+            answer,
+            flags: flags(played.is_err(), complete, next.progress.finished),
+            frame: next.progress.frame_index,
+            sum: mix_sources(records, next.progress.wave_sources),
+        };
+        (told, next)
     }
-    if told.number != bytes_read::byte_at(stored, 6) as u32 {
-        return false;
-    }
-    if told.place != bytes_read::read_u16(stored, 20) as u64 {
-        return false;
-    }
-    if told.count != bytes_read::read_u16(stored, 22) as usize {
-        return false;
-    }
-    if told.frame != bytes_read::read_u16(stored, 24) as u32 {
-        return false;
-    }
-    told.sum == bytes_read::read_u32(stored, 28)
 }
