@@ -3,92 +3,72 @@
 // result's length and bytes. Numbers have four bytes. rust/README.md says how it is made.
 #![tactic(auto)]
 
-mod answer;
-
-ghost use Rattle.std.specs.Prelude.{◌≡◌, ◌<◌, length, IfOk};
-
-use std::alloc::{AllocError, Global};
+use bytes_read::read_u32;
+use join::{JoinError, join};
+use std::alloc::Global;
 use std::fs::File;
 use std::io;
 use std::io::Read;
-use test_vectors::Counts;
+use test_vectors::{Answer, Counts, Lent, front, next_number, read_front, replay_list};
 
-// A file of the list: none is longer, and 65,536 pools take so many bytes.
-fn file_space(alloc: Global) -> Result<Vec<u8>, AllocError>
-    ensures { IfOk result (λ bytes. 557115 ≡ length bytes.items) }
-{
-    vec![in alloc; 0; 557115]
+// What a file of the list has at most: 65,536 pools take so many bytes.
+const FILE_MOST: usize = 557115;
+
+// The file that is refused, which is 0 for none and for the join of both, and the answer.
+fn told(joined: Result<usize, JoinError>) -> (u32, Answer) {
+    match joined {
+        Ok(size) => (0, Answer::from(Ok(size))),
+        Err(JoinError::First(refusal)) => (1, Answer::from(Err(refusal))),
+        Err(JoinError::Second(refusal)) => (2, Answer::from(Err(refusal))),
+        Err(JoinError::Neither(refusal)) => (0, Answer::from(Err(refusal))),
+    }
 }
 
-// What the lent bytes are before a call. No room of the list is longer than 65,536 bytes.
-fn memory(alloc: Global) -> Result<Vec<u8>, AllocError>
-    ensures { IfOk result (λ bytes. 65536 ≡ length bytes.items) }
-{
-    vec![in alloc; 0xA5; 65536]
-}
-
-// Reads the answer of two files, joins them and compares. False also where no whole answer is left. Behind the result the lent bytes stay
-// as they were.
+// Reads the answer of two files, joins them and compares. False also where no whole answer is left.
 fn compare<R: Read>(alloc: Global, input: &mut R, first: &[u8], second: &[u8]) -> io::Result<bool> {
     let mut head = [0u8; 20];
-    let mut lent = memory(alloc)?;
-    let mut expected = memory(alloc)?;
-    if !test_vectors::read_front(input, &mut head, 20)? {
+    if !read_front(input, &mut head, 20)? {
         return Ok(false);
     }
-    let size = bytes_read::read_u32(&head, 16) as usize;
-    if !test_vectors::read_front(input, &mut expected, size)? {
-        return Ok(false);
+    let stored = (read_u32(&head, 4), Answer::read(&head[8..]));
+    match Lent::read(alloc, input, read_u32(&head, 0) as usize, stored.1.value)? {
+        None => Ok(false),
+        Some(mut lent) => {
+            let answer = told(join(first, second, &mut lent.bytes));
+            Ok((answer == stored) & lent.is_made())
+        }
     }
-    Ok(answer::is_same(first, second, &head, &mut lent, &expected))
 }
 
-// Reads a pair of files, and compares. False also where no whole pair is left.
-fn replay<R: Read>(
-    alloc: Global,
-    input: &mut R,
-    length: usize,
-    second_length: usize,
-) -> io::Result<bool> {
-    let mut first = file_space(alloc)?;
-    let mut second = file_space(alloc)?;
+// Reads a pair of files, and compares. Not as stored also where no whole pair is left.
+fn replay<R: Read>(alloc: Global, input: &mut R, length: u32) -> io::Result<Counts> {
     let mut bytes = [0u8; 4];
-    let stored = test_vectors::next_number(input, &mut bytes)? as usize;
-    let second_stored = test_vectors::next_number(input, &mut bytes)? as usize;
-    if !test_vectors::read_front(input, &mut first, stored)? {
-        return Ok(false);
+    let length = length as usize;
+    let second_length = next_number(input, &mut bytes)? as usize;
+    let stored = next_number(input, &mut bytes)? as usize;
+    let second_stored = next_number(input, &mut bytes)? as usize;
+    let mut first = vec![in alloc; 0; FILE_MOST]?;
+    let mut second = vec![in alloc; 0; FILE_MOST]?;
+    if !read_front(input, &mut first, stored)? {
+        return Ok(Counts::from(false));
     }
-    if !test_vectors::read_front(input, &mut second, second_stored)? {
-        return Ok(false);
+    if !read_front(input, &mut second, second_stored)? {
+        return Ok(Counts::from(false));
     }
-    compare(
+    let same = compare(
         alloc,
         input,
-        test_vectors::front(&first, length),
-        test_vectors::front(&second, second_length),
-    )
-}
-
-// The counts behind the next pair of the list.
-fn replay_next<R: Read>(alloc: Global, input: &mut R, counts: Counts) -> io::Result<Counts>
-    requires { 0 < counts.left }
-    ensures { IfOk result (λ behind. behind.left < counts.left) }
-{
-    let mut bytes = [0u8; 4];
-    let length = test_vectors::next_number(input, &mut bytes)?;
-    if length == test_vectors::END {
-        return Ok(test_vectors::ended(counts));
-    }
-    let second_length = test_vectors::next_number(input, &mut bytes)? as usize;
-    let same = replay(alloc, input, length as usize, second_length)?;
-    Ok(test_vectors::count(counts, same))
+        front(&first, length),
+        front(&second, second_length),
+    )?;
+    Ok(Counts::from(same))
 }
 
 fn main(rt: HostRuntime) -> io::Result<()> {
     let mut input = File::open(&rt, "joins.bin")?;
-    let mut counts = test_vectors::none();
-    while 0 < counts.left {
-        counts = replay_next(rt.alloc(), &mut input, counts)?;
-    }
-    test_vectors::print(&rt, counts)
+    let counts = replay_list(
+        &mut input,
+        |input, length| replay(rt.alloc(), input, length),
+    )?;
+    println!(rt; "{counts}")
 }

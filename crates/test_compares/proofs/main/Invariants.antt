@@ -1,5 +1,0 @@
--- The loop ends: each turn leaves fewer entries to read.
-use Rattle.test_compares.proofs.main.Given as goal
-
-abbrev pub decreases-loop-counts : goal.decreases-loop-counts
-decreases-loop-counts l = l.counts.left
