@@ -28,7 +28,7 @@ use sgub_answers::{SgubCard, SgubPool, SgubVerdict};
 
 #[unsafe(no_mangle)]
 pub extern "C" fn sgub_check(file: &[u8]) -> SgubVerdict
-    ensures { result ≡ verdict_on (recorded file.now).0 }
+    ensures { result ≡ verdict_on (recorded file.now) }
 {
     sgub_answers::verdict_of(check_file::check_file(file))
 }
@@ -36,7 +36,7 @@ pub extern "C" fn sgub_check(file: &[u8]) -> SgubVerdict
 // The card of a file by its index; all 0 from the card count on.
 #[unsafe(no_mangle)]
 pub extern "C" fn sgub_card(file: &[u8], index: usize) -> SgubCard
-    ensures { result ≡ card_on (recorded file.now).0 index }
+    ensures { result ≡ card_on (recorded file.now) index }
 {
     sgub_answers::card_of(check_file::check_file(file), index)
 }
