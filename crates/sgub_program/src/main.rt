@@ -10,7 +10,10 @@ fn print_verdict(rt: &impl Print, file: &[u8]) -> io::Result<()> {
     match check_file(file) {
         Ok(found) => {
             let header = found.header;
-            println!(rt; "accepted {} {} {}", header.version, header.frame_count, header.initial_count)
+            println!(rt;
+                "accepted {} {} {}",
+                header.version, header.frame_count, header.initial_count
+            )
         }
         Err(refusal) => println!(rt; "{refusal}"),
     }
