@@ -75,7 +75,8 @@ fn compare_headers(
     ))
 }
 
-// Whether a master and a file of version 2 agree, or which one is refused; the images then hold the memory that each file's opening leaves, pass or fail.
+// Whether a master and a file of version 2 agree, or which one is refused. Where neither is, the images hold the memory that each
+// file's opening leaves, whether they agree or not.
 pub fn compare(
     master: &[u8],
     other: &[u8],

@@ -6,7 +6,7 @@ ghost use Rattle.play_jump.specs.Jumped.{JumpMade};
 use base_format::StreamPlayer;
 use play_plan_jump::plan_jump;
 
-// What a jump tells: number and place of its refusal, or 0 and 0.
+// What a jump tells: number and place of its refusal, or 0 and 0. It is exported, and the kit exports no type that holds an enum.
 #[repr(C)]
 #[derive(Clone, Copy)]
 pub struct Jumped {

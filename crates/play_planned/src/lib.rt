@@ -8,7 +8,8 @@ use base_format::{StreamPlayer, WriteRecord};
 use play_plan::plan_call;
 use play_store::store_call;
 
-// What a call tells: number and place of its refusal, or 0 and 0; how many records it stored, and whether the vsync is complete.
+// What a call tells: number and place of its refusal, or 0 and 0; how many records it stored, and whether the vsync is complete. It is
+// exported, and the kit exports no type that holds an enum.
 #[repr(C)]
 #[derive(Clone, Copy)]
 pub struct Vsync {

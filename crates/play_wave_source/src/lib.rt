@@ -6,7 +6,7 @@ ghost use Rattle.base_format.specs.State.{wave_source};
 
 use base_format::StreamPlayer;
 
-// The pool last copied to one of 8 channels of 2 cores; none where none was, and outside of them.
+// The pool last copied to a channel of a core; `None` where none was, and past the 8 channels of 2 cores.
 #[tactic(auto, unfolding(base_format::specs::State::wave_source))]
 pub fn wave_source(state: StreamPlayer, core: usize, channel: usize) -> Option<u16>
     ensures { result ≡ wave_source state core channel }

@@ -6,7 +6,7 @@ ghost use Rattle.sgub_pool_list.specs.Listing.{pools_on, pools_after};
 use crate::{SgubPoolEntry, store_pools};
 use check_file::check_file;
 
-// The verdict on a file, and how many pools it has.
+// The verdict on a file, and how many pools it has. It is exported, and the kit exports no type that holds an enum.
 #[repr(C)]
 #[derive(Clone, Copy)]
 pub struct SgubPools {
