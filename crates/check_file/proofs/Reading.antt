@@ -13,7 +13,7 @@ use Rattle.base_format.specs.Stream.{read}
 use Rattle.base_format.proofs.Accepted.{header_passed}
 use Rattle.base_format.proofs.Cards.{table_cards}
 use Rattle.check_file.specs.Answer.{recorded}
-use Rattle.check_file.specs.Walk.{behind_header, walked}
+use Rattle.check_file.specs.Walk.{behind_header, file_walked}
 use Rattle.base_format.proofs.InTurn.{mapped_bind, mapped_then, bind_mapped, bind_bind, then_bind, bind_then, then_then}
 
 -- the header that is found is the file's
@@ -45,7 +45,7 @@ unfolding read
 read_refused file number place e = rw e
 
 -- the sheet's checks are those of the code
-pub recorded_walked : (file : List ℕ) → recorded file ≡ walked file
+pub recorded_walked : (file : List ℕ) → recorded file ≡ file_walked file
 recorded_walked file = go (header_from file) refl
   where
     go : (h : Checked Header) → header_from file ≡ h → recorded file ≡ (h >>= behind_header file)

@@ -19,5 +19,5 @@ behind_header file header = do
   ok (record { header = header; cards = cards; uses_si22 = uses })
 
 -- what is recorded of a file
-abbrev pub walked : List ℕ → Checked Recorded
-walked file = header_from file >>= behind_header file
+abbrev pub file_walked : List ℕ → Checked Recorded
+file_walked file = header_from file >>= behind_header file

@@ -27,6 +27,8 @@ pub struct FramesLeft {
 }
 
 // Passes the empty frames in front of so many, but for the last.
+// It is a function of its own for LLVM too, which then puts its loop on a boundary.
+#[inline(never)]
 pub fn skip_empty(file: &[u8], count: u32, start: usize) -> FramesLeft
     ensures { result ≡ skipped file.now count start }
 {

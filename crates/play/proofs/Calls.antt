@@ -15,7 +15,7 @@ use Rattle.play_fast_empty.specs.declared.EmptyStep.TheVariants.{Taken}
 use Rattle.play_fast_empty.specs.Empty.{empty_of}
 use Rattle.play_fast_empty.proofs.Emptied.{empty_call}
 use Rattle.play_fast_step.specs.declared.Step.{Step}
-use Rattle.play_fast_step.specs.Step.{count_of, stepped}
+use Rattle.play_fast_step.specs.Step.{step_count, stepped}
 use Rattle.play_fast.specs.Step.{step_of}
 use Rattle.play_fast.proofs.Stepped.{step_call}
 use Rattle.play_store_fast.specs.Stored.{step_stored}
@@ -27,7 +27,7 @@ use Rattle.play_planned.specs.Vsync.{vsync_of}
 
 -- what it tells, and the state behind it
 abbrev pub step_told : Step → Vsync
-step_told step = record { number = 0; place = 0; count = count_of step.writes; complete = step.complete }
+step_told step = record { number = 0; place = 0; count = step_count step.writes; complete = step.complete }
 
 abbrev pub stepped_on : StreamPlayer → Step → StreamPlayer
 stepped_on state step = moved state (stepped state.progress step)

@@ -6,7 +6,7 @@ use mathlib.Core.List.{List, [], ◌++◌}
 use native.Mathlib.Omega.{arith}
 use borrow.Author.Tests.{ltb-false, leb-true, leb-false, le-ltb, ltb-true, ne_eqb}
 use lib.Dec.{eqb, leb, ltb}
-use Rattle.std.specs.Prelude.{Option, Some, None}
+use Rattle.std.specs.Prelude.{Result, Ok, Err}
 use lib.ListN.{length, take, drop, replicate, length-drop, length-replicate}
 use Rattle.base_format.specs.declared.operation.WriteRecord.{WriteRecord}
 use Rattle.base_format.specs.declared.player.Progress.{Progress}
@@ -26,7 +26,7 @@ use Rattle.play_fast_fill_records.proofs.Records.{records_join}
 use Rattle.play_fast_fill.specs.declared.FillsTaken.{FillsTaken}
 use Rattle.play_fast_fill.specs.Fills.{stopped_at, count_at, fills_from, fills_taken}
 use Rattle.play_fast_fill.proofs.Items.{version_of, width_of, starts_in, ends_in, item_on, Used, used}
-use Rattle.play_fast_fill.proofs.Steps.{fills_end, fills_full, fills_none, fills_step, from_fewer}
+use Rattle.play_fast_fill.proofs.Steps.{Fewer, stop_of, fills_end, fills_full, fills_none, fills_step, from_fewer}
 
 -- what a call gathers, where the walk stops
 abbrev pub taken : StreamPlayer → List ℕ → (left room : ℕ) → Progress → FillsTaken → Gathered
@@ -118,7 +118,7 @@ module _ (state : StreamPlayer) (file : List ℕ) (limit end : ℕ) (pooled : eq
 
   -- SO MANY OPERATIONS
 
-  abbrev walk : (left room cursor writes : ℕ) → Option FillsTaken
+  abbrev walk : (left room cursor writes : ℕ) → Result FillsTaken FillsTaken
   walk left room cursor writes = fills_from file (width_of state) (starts_in state) (ends_in state) end left room cursor writes
 
   abbrev count : ℕ → ℕ
@@ -141,7 +141,7 @@ module _ (state : StreamPlayer) (file : List ℕ) (limit end : ℕ) (pooled : eq
   unfolding gathered
   no_room left p = refl
 
-  from_gathered : (left room : ℕ) (p : Progress) (r : FillsTaken) → Some r ≡ walk left room p.cursor p.write_index
+  from_gathered : (left room : ℕ) (p : Progress) (r : FillsTaken) → Ok r ≡ walk left room p.cursor p.write_index
       → gathered state file limit left room p ≡ ok (taken state file left room p r)
   from_gathered zero room p r is =
       let at : r ≡ stopped_at p.cursor 0 room p.write_index = cc (is, fills_end file (width_of state) (starts_in state) (ends_in state) end room p.cursor p.write_index) in
@@ -165,10 +165,10 @@ module _ (state : StreamPlayer) (file : List ℕ) (limit end : ℕ) (pooled : eq
 
       -- the operations behind the first
       Others : Type 0
-      Others = Some r ≡ walk left (suc others - rest) onto 0 → gathered state file limit left (suc others - rest) behind ≡ ok (taken state file left (suc others - rest) behind r)
+      Others = Ok r ≡ walk left (suc others - rest) onto 0 → gathered state file limit left (suc others - rest) behind ≡ ok (taken state file left (suc others - rest) behind r)
 
       first : Others → Used state file limit p.cursor → count p.cursor ≡ (item_on state file p.cursor).length → p.cursor + 16 ≤ end → made < count p.cursor
-          → (b : Bool) → ltb (suc others) rest ≡ b → Some r ≡ cond b (Some (stopped_at p.cursor (suc left) 0 (made + suc others))) (walk left (suc others - rest) onto 0)
+          → (b : Bool) → ltb (suc others) rest ≡ b → Ok r ≡ cond b (Ok (stopped_at p.cursor (suc left) 0 (made + suc others))) (walk left (suc others - rest) onto 0)
           → gathered state file limit (suc left) (suc others) p ≡ ok (taken state file (suc left) (suc others) p r)
       first later u same whole more true short e =
           let at : r ≡ stopped_at p.cursor (suc left) 0 (made + suc others) = cc e in
@@ -176,7 +176,7 @@ module _ (state : StreamPlayer) (file : List ℕ) (limit end : ℕ) (pooled : eq
           let room : suc others - 0 ≡ suc others = omega arith in
           rw (at, index, room) (cut (suc left) (suc others) p (omega arith) (omega arith) u whole (rw same at more) (rw same at short))
       first later u same whole more false enough e =
-          let fewer = from_fewer file (width_of state) (starts_in state) (ends_in state) end left (suc others - rest) onto 0 r e in
+          let fewer : Fewer left (suc others - rest) r = rw (ap stop_of e) (from_fewer file (width_of state) (starts_in state) (ends_in state) end left (suc others - rest) onto 0) in
           let one : suc left - 1 ≡ left = omega arith in
           let index : p.operation_index + 1 + (left - r.left) ≡ p.operation_index + (suc left - r.left) = omega (arith, fewer.0) in
           let all : ℕ = (item_on state file p.cursor).length in
@@ -200,14 +200,14 @@ module _ (state : StreamPlayer) (file : List ℕ) (limit end : ℕ) (pooled : eq
 
 -- with the ranges of a version and its cards, and the same limit or a later one
 pub fills_gathered : (state : StreamPlayer) (file : List ℕ) (limit later left room cursor writes : ℕ) (p : Progress) (r : FillsTaken) → limit ≤ later → limit ≤ length file
-    → p.cursor ≡ cursor → p.write_index ≡ writes → Some r ≡ fills_taken file (version_of state) (cards_of state.cards) limit left room cursor writes
+    → p.cursor ≡ cursor → p.write_index ≡ writes → Ok r ≡ fills_taken file (version_of state) (cards_of state.cards) limit left room cursor writes
     → gathered state file later left room p ≡ ok (taken state file left room p r)
 unfolding fills_taken
 fills_gathered state file limit later left room cursor writes p r most inside at done is =
     go (leb 2 (version_of state) && leb (version_of state) 4) refl is
   where
     go : (b : Bool) → (leb 2 (version_of state) && leb (version_of state) 4) ≡ b
-        → Some r ≡ cond b (fills_from file (width_of state) (starts_in state) (ends_in state) limit left room cursor writes) None
+        → Ok r ≡ cond b (fills_from file (width_of state) (starts_in state) (ends_in state) limit left room cursor writes) (Err (stopped_at cursor left room writes))
         → gathered state file later left room p ≡ ok (taken state file left room p r)
     go true e walked =
         let low : 2 ≤ version_of state = leb-true 2 (version_of state) (and_true (leb 2 (version_of state)) (leb (version_of state) 4) e).0 in

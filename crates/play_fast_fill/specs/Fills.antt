@@ -1,5 +1,5 @@
 -- A part's operations as far as all of them are WRITEs and FILLs that a table of ranges allows.
-use Rattle.std.specs.Prelude.{ℕ, zero, suc, ◌+◌, ◌*◌, ◌-◌, cond, ◌&&◌, List, eqb, leb, ltb, get_or, Option, Some, None}
+use Rattle.std.specs.Prelude.{ℕ, zero, suc, ◌+◌, ◌*◌, ◌-◌, cond, ◌&&◌, List, eqb, leb, ltb, get_or, Result, Ok, Err}
 use Rattle.base_format.specs.declared.card.CardRequirement.{CardRequirement}
 use Rattle.base_format.specs.Operation.{address_width}
 use Rattle.base_format.specs.Size.{operation_most}
@@ -26,19 +26,19 @@ unfoldable pub count_at : List ℕ → (width : ℕ) → (starts ends : List ℕ
 count_at file width starts ends limit at = cond (ltb limit (at + operation_most)) 0 (fill_count (decoded_at width file at) starts ends)
 
 -- so many operations from a cursor, for as many writes as there is room for. Of the first one so many writes are made: where no other
--- is left of it, it is not taken
-unfoldable pub fills_from : List ℕ → (width : ℕ) → (starts ends : List ℕ) → (limit left room cursor writes : ℕ) → Option FillsTaken
-fills_from file width starts ends limit zero room cursor writes = Some (stopped_at cursor 0 room writes)
+-- is left of it, the walk stops there and is not taken
+unfoldable pub fills_from : List ℕ → (width : ℕ) → (starts ends : List ℕ) → (limit left room cursor writes : ℕ) → Result FillsTaken FillsTaken
+fills_from file width starts ends limit zero room cursor writes = Ok (stopped_at cursor 0 room writes)
 fills_from file width starts ends limit (suc left) room cursor writes =
     let count = count_at file width starts ends limit cursor in
-    cond (eqb room 0) (Some (stopped_at cursor (suc left) room writes))
-    (cond (leb count writes) None
-    (cond (ltb room (count - writes)) (Some (stopped_at cursor (suc left) 0 (writes + room)))
+    cond (eqb room 0) (Ok (stopped_at cursor (suc left) room writes))
+    (cond (leb count writes) (Err (stopped_at cursor (suc left) room writes))
+    (cond (ltb room (count - writes)) (Ok (stopped_at cursor (suc left) 0 (writes + room)))
     (fills_from file width starts ends limit left (room - (count - writes)) (cursor + (decoded_at width file cursor).size) 0)))
 
 -- with the ranges of a version and its cards. Version 1 has records, and is not taken
-unfoldable pub fills_taken : List ℕ → (version : ℕ) → List CardRequirement → (limit left room cursor writes : ℕ) → Option FillsTaken
+unfoldable pub fills_taken : List ℕ → (version : ℕ) → List CardRequirement → (limit left room cursor writes : ℕ) → Result FillsTaken FillsTaken
 fills_taken file version cards limit left room cursor writes =
     cond (leb 2 version && leb version 4)
     (fills_from file (address_width version) (starts_of version cards) (ends_of version cards) limit left room cursor writes)
-    None
+    (Err (stopped_at cursor left room writes))

@@ -58,7 +58,7 @@ fn fills_from(
     room: usize,
     cursor: usize,
     writes: u32,
-) -> Option<FillsTaken>
+) -> Result<FillsTaken, FillsTaken>
     requires { (3 ≤ width) × (width ≤ 4) × (limit ≤ length file.now) }
     ensures { result ≡ fills_from file.now width starts.now ends.now limit left room cursor writes }
 {
@@ -66,36 +66,36 @@ fn fills_from(
     let mut free = room;
     let mut done = writes;
     for i in 0..left {
+        let here = FillsTaken {
+            cursor: at,
+            left: left - i,
+            room: free,
+            writes: done,
+        };
         if free == 0 {
-            return Some(FillsTaken {
-                cursor: at,
-                left: left - i,
-                room: 0,
-                writes: done,
-            });
+            return Ok(here);
         }
         if passes(limit, at, OPERATION_MOST) {
-            return None;
+            return Err(here);
         }
         let bytes = window(file, at);
         let count = fill_count(bytes, width, starts, ends);
         if count <= done {
-            return None;
+            return Err(here);
         }
         let rest = count - done;
         if free < rest as usize {
-            return Some(FillsTaken {
-                cursor: at,
-                left: left - i,
+            return Ok(FillsTaken {
                 room: 0,
                 writes: done + free as u32,
+                ..here
             });
         }
         free -= rest as usize;
         at += fill_size_in(bytes, width);
         done = 0;
     }
-    Some(FillsTaken {
+    Ok(FillsTaken {
         cursor: at,
         left: 0,
         room: free,
@@ -103,8 +103,8 @@ fn fills_from(
     })
 }
 
-// The operations that are left of a part, for as many writes as there is room for. There is no answer where the walk comes to an
-// operation that is no WRITE or FILL, that is not allowed, or whose writes are all made.
+// The operations that are left of a part, for as many writes as there is room for. An error says where the walk came to an operation
+// that is no WRITE or FILL, that is not allowed, or whose writes are all made.
 #[tactic(auto, unfolding(crate::specs::Fills::fills_taken))]
 pub fn take_fills(
     file: &[u8],
@@ -115,15 +115,21 @@ pub fn take_fills(
     room: usize,
     cursor: usize,
     writes: u32,
-) -> Option<FillsTaken>
+) -> Result<FillsTaken, FillsTaken>
     requires { limit ≤ length file.now }
     ensures { result ≡ fills_taken file.now version (cards_of cards) limit left room cursor writes }
 {
+    let here = FillsTaken {
+        cursor,
+        left,
+        room,
+        writes,
+    };
     if version < 2 {
-        return None;
+        return Err(here);
     }
     if 4 < version {
-        return None;
+        return Err(here);
     }
     let mut starts: [u32; RANGES] = [0; RANGES];
     let mut ends: [u64; RANGES] = [0; RANGES];

@@ -5,7 +5,7 @@ use mathlib.Core.List.{List}
 use mathlib.Core.Path.{◌≡◌, refl, sym, ap, ◌∙◌}
 use native.Mathlib.Omega.{arith}
 use lib.Dec.{ltb}
-use Rattle.std.specs.Prelude.{Option, Some, None}
+use Rattle.std.specs.Prelude.{Some, None, Result, Ok, Err}
 use Rattle.base_format.specs.declared.card.CardRequirement.{CardRequirement}
 use Rattle.base_format.specs.declared.player.Progress.{Progress}
 use Rattle.base_format.specs.declared.player.StreamPlayer.{StreamPlayer}
@@ -25,28 +25,28 @@ use Rattle.play_fast_fill_records.specs.Records.{fill_place, fill_records}
 use Rattle.play_fast_fill.specs.declared.FillsTaken.{FillsTaken}
 use Rattle.play_fast_fill.specs.Fills.{fills_taken}
 use Rattle.play_fast_fill.proofs.Gathered.{fills_gathered}
-use Rattle.play_fast_fill.proofs.Steps.{fills_fewer}
+use Rattle.play_fast_fill.proofs.Steps.{taken_fewer}
 use Rattle.play_fast_fill_step.specs.FillStep.{fill_step_by, fill_step}
 
 -- WHERE THE PLAYER THEN IS
 
 module _ (file : List ℕ) (version : ℕ) (cards : List CardRequirement) (c : PlayingPart) (room : ℕ) where
-  abbrev reached : Option FillsTaken
+  abbrev reached : Result FillsTaken FillsTaken
   reached = fills_taken file version cards c.limit (left_of c) room c.at.cursor c.at.write_index
 
   -- a step that is taken goes there
   record Takes (step : Step) : Type 0 where
     to : FillsTaken
-    there : Some to ≡ reached
+    there : Ok to ≡ reached
     is : Some step ≡ step_to c to.left to.cursor to.writes (Fills c.at.write_index (room - to.room))
 
   fill_takes : (step : Step) → Some step ≡ fill_step file version cards c room → Takes step
   unfolding fill_step
   fill_takes step s = go (ltb 1 (byte file c.at.cursor)) reached refl s
     where
-      go : (copy : Bool) → (fills : Option FillsTaken) → reached ≡ fills → Some step ≡ cond copy None (fill_step_by c room fills) → Takes step
-      go false (Some to) there h = record { to = to; there = sym there; is = h }
-      go false None there h = cc
+      go : (copy : Bool) → (fills : Result FillsTaken FillsTaken) → reached ≡ fills → Some step ≡ cond copy None (fill_step_by c room fills) → Takes step
+      go false (Ok to) there h = record { to = to; there = sym there; is = h }
+      go false (Err stop) there h = cc
       go true fills there h = cc
 
   -- it makes so many writes behind those that are made, and there is room for them
@@ -79,7 +79,7 @@ module _ (state : StreamPlayer) (file : List ℕ) (room : ℕ) (c : PlayingPart)
       let going = playing_part_going state file c e in
       let q : Progress = playing state.progress c in
       let from = taken_from c r.left r.cursor r.writes (Fills c.at.write_index count) step takes.is in
-      let fewer = fills_fewer file version cards c.limit (left_of c) room c.at.cursor c.at.write_index r takes.there in
+      let fewer = taken_fewer file version cards c.limit (left_of c) room c.at.cursor c.at.write_index r takes.there in
       let index : c.at.operation_index + (left_of c - r.left) ≡ c.at.operation_count - r.left = omega (arith, going.counted, fewer.0) in
       let gathers = fills_gathered state file c.limit (limit_of state file c) (left_of c) room c.at.cursor c.at.write_index q r (going_within state file c going) going.inside refl refl takes.there in
       let placed' =

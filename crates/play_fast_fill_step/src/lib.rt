@@ -14,7 +14,7 @@ use play_fast_part::PlayingPart;
 use play_fast_step::{Step, StepWrites, step_to};
 
 // The step of a call with room for so many records. A part whose next operation is a COPY is not taken, before any table is made.
-#[tactic(auto, unfolding(crate::specs::FillStep::fill_step), using(play_fast_fill::proofs::Steps::fills_fewer))]
+#[tactic(auto, unfolding(crate::specs::FillStep::fill_step), using(play_fast_fill::proofs::Steps::taken_fewer))]
 pub fn fill_step(
     file: &[u8],
     version: u8,
@@ -31,7 +31,7 @@ pub fn fill_step(
         return None;
     }
     let left = operations_left(at.operation_index, at.operation_count);
-    let fills = take_fills(
+    let Ok(fills) = take_fills(
         file,
         version,
         cards,
@@ -40,7 +40,9 @@ pub fn fill_step(
         room,
         at.cursor,
         at.write_index,
-    )?;
+    ) else {
+        return None;
+    };
     let writes = StepWrites::Fills {
         made: at.write_index,
         count: room - fills.room,

@@ -62,6 +62,8 @@ fn plain_in(version: u8, bytes: &[u8]) -> bool
 }
 
 // The place behind so many of them; none where one is not plain or has no 16 bytes before the end.
+// It is a function of its own for LLVM too, which then puts its loop on a boundary.
+#[inline(never)]
 #[tactic(auto, unfolding(crate::specs::Plain::plain_behind), using(crate::proofs::Behind::behind_step, crate::proofs::Behind::behind_short, crate::proofs::Behind::behind_other))]
 pub fn plain_behind(file: &[u8], version: u8, end: usize, count: u32, start: usize) -> Option<usize>
     requires { end ≤ length file.now }

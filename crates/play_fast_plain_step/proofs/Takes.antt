@@ -39,8 +39,12 @@ plain_takes file version room c step e = go (eqb c.at.write_index 0) refl (plain
         → Some step ≡ cond (not unbegun) None (plain_step_by c (left_of c) count behind) → Takes file version room c step
     go false u behind b h = cc
     go true u None b h = cc
-    go true u (Some behind) b h =
-        record { count = count; behind = behind; few = omega arith; fit = omega arith; full = λ less. omega (arith, less); unbegun = eqb-true _ _ u; some = sym b; is = h }
+    go true u (Some behind) b h = passed (eqb behind 0) h
+      where
+        passed : (first : Bool) → Some step ≡ cond first None (step_to c (left_of c - count) behind 0 (Plain count)) → Takes file version room c step
+        passed true e = cc
+        passed false e =
+            record { count = count; behind = behind; few = omega arith; fit = omega arith; full = λ less. omega (arith, less); unbegun = eqb-true _ _ u; some = sym b; is = e }
 
 -- what is stored by it
 pub record Plainly (file : List ℕ) (version room : ℕ) (step : Step) : Type 0 where

@@ -8,9 +8,9 @@ use Rattle.play_fast_step.specs.declared.StepWrites.TheVariants.{Plain}
 use Rattle.play_fast_part.specs.PlayingPart.{left_of}
 use Rattle.play_fast_step.specs.Step.{step_to}
 
--- with as many operations as are taken, and the place behind them
+-- with as many operations as are taken, and the place behind them; at place 0 nothing was passed
 abbrev pub plain_step_by : PlayingPart → (left count : ℕ) → Option ℕ → Option Step
-plain_step_by c left count behind = option_and_then (λ (at : ℕ). step_to c (left - count) at 0 (Plain count)) behind
+plain_step_by c left count behind = option_and_then (λ (at : ℕ). cond (eqb at 0) None (step_to c (left - count) at 0 (Plain count))) behind
 
 -- as many as are left, or as there is room for; none where writes of the first one are made
 unfoldable pub plain_step : List ℕ → (version : ℕ) → PlayingPart → (room : ℕ) → Option Step

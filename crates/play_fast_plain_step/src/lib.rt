@@ -23,5 +23,8 @@ pub fn plain_step(file: &[u8], version: u8, playing: PlayingPart, room: usize) -
     let left = operations_left(at.operation_index, at.operation_count);
     let count = room.min(left as usize) as u32;
     let behind = plain_behind(file, version, playing.limit, count, at.cursor)?;
+    if behind == 0 {
+        return None;
+    }
     step_to(playing, left - count, behind, 0, StepWrites::Plain(count))
 }

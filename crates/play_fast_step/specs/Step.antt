@@ -9,9 +9,9 @@ use Rattle.play_fast_step.specs.declared.StepWrites.{StepWrites}
 use Rattle.play_fast_step.specs.declared.StepWrites.TheVariants.{Plain, Fills}
 
 -- how many writes a step makes
-abbrev pub count_of : StepWrites → ℕ
-count_of (Plain count) = count
-count_of (Fills made count) = count
+abbrev pub step_count : StepWrites → ℕ
+step_count (Plain count) = count
+step_count (Fills made count) = count
 
 -- some of the part's operations stay, the next one at a cursor with so many writes made
 abbrev pub step_within : PlayingPart → (left cursor made : ℕ) → StepWrites → Step

@@ -2,7 +2,7 @@
 #![tactic(auto)]
 
 ghost use Rattle.std.specs.Prelude.{◌≡◌, ◌≤◌};
-ghost use Rattle.play_fast_step.specs.Step.{count_of, step_ending, step_to};
+ghost use Rattle.play_fast_step.specs.Step.{step_count, step_ending, step_to};
 
 use base_format::{Part, Position};
 use base_position::{between_at, onward_to};
@@ -19,7 +19,7 @@ pub enum StepWrites {
 impl StepWrites {
     // How many they are.
     pub fn count(self) -> usize
-        ensures { result ≡ count_of self }
+        ensures { result ≡ step_count self }
     {
         match self {
             StepWrites::Plain(count) => count as usize,

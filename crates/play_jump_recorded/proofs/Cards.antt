@@ -20,7 +20,7 @@ name_same [] (y ∷ b) = refl
 name_same (x ∷ a) [] = refl
 name_same (x ∷ a) (y ∷ b) = rw (name_same a b)
 
-card_same : (a b : CardRequirement) → eq-value.it a b ≡ same_card a b
+pub card_same : (a b : CardRequirement) → eq-value.it a b ≡ same_card a b
 unfolding same_card
 card_same a b = rw (name_same a.id b.id) (grind arith)
 

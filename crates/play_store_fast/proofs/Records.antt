@@ -14,7 +14,7 @@ use Rattle.base_format.specs.Lent.{stored}
 use Rattle.play_fast_step.specs.declared.Step.{Step}
 use Rattle.play_fast_step.specs.declared.StepWrites.{StepWrites}
 use Rattle.play_fast_step.specs.declared.StepWrites.TheVariants.{Plain, Fills}
-use Rattle.play_fast_step.specs.Step.{count_of}
+use Rattle.play_fast_step.specs.Step.{step_count}
 use Rattle.play_fast_plain.proofs.Writes.{writes_long}
 use Rattle.play_fast_plain_step.proofs.Takes.{plain_plainly}
 use Rattle.play_store_plain.specs.Stored.{writes_stored}
@@ -47,6 +47,6 @@ module _ (file : List ℕ) (header : Header) (cards : CardTable) (p : Progress) 
           rw (k.is, all)
 
 -- the records of a step are as many as it counts
-pub step_long : (file : List ℕ) (version from : ℕ) (writes : StepWrites) → count_of writes ≡ length (records_from file version from writes)
+pub step_long : (file : List ℕ) (version from : ℕ) (writes : StepWrites) → step_count writes ≡ length (records_from file version from writes)
 step_long file version from (Plain count) = sym (writes_long version file count from)
 step_long file version from (Fills made count) = sym (records_long file version count (fill_place from made))

@@ -53,6 +53,8 @@ fn nth_write(file: &[u8], version: u8, from: usize, index: usize) -> WriteRecord
 }
 
 // The writes stand at the run's front where all of them fit; no other record is touched.
+// It is a function of its own for LLVM too, which then puts its loop on a boundary.
+#[inline(never)]
 pub fn store_writes(run: &mut [WriteRecord], file: &[u8], version: u8, from: usize, count: u32)
     ensures { run.new ≡ writes_stored file.now version from count run.old }
 {

@@ -12,7 +12,8 @@ pub fn wave_source(state: StreamPlayer, core: usize, channel: usize) -> Option<u
     ensures { result ≡ wave_source state core channel }
 {
     if core < 2 && channel < 8 {
-        let source = state.progress.wave_sources[core * 8 + channel];
+        let progress = state.progress;
+        let source = progress.wave_sources[core * 8 + channel];
         return source.copied.then_some(source.pool);
     }
     None

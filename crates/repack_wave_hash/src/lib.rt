@@ -15,12 +15,14 @@ pub fn same_wave(file: &[u8], a: usize, b: usize) -> bool
     requires { (a + wave_records_size ≤ length file.now) × (b + wave_records_size ≤ length file.now) }
     ensures { result ≡ same_bytes (wave_at file.now a) (wave_at file.now b) }
 {
-    for i in 0..WAVE_SIZE {
-        let one = a + i * RECORD_SIZE;
-        let other = b + i * RECORD_SIZE;
+    let mut one = a;
+    let mut other = b;
+    for _i in 0..WAVE_SIZE {
         if file[one + 4] != file[other + 4] {
             return false;
         }
+        one += RECORD_SIZE;
+        other += RECORD_SIZE;
     }
     true
 }
@@ -42,8 +44,8 @@ pub fn bucket(file: &[u8], at: usize) -> usize
     ensures { result ≡ bucket_at file.now at }
 {
     let mut hash = 0;
-    for i in 0..64 {
-        let place = at + i * 20;
+    let mut place = at;
+    for _i in 0..64usize {
         hash = mix_four(
             hash,
             file[place + 4],
@@ -51,6 +53,7 @@ pub fn bucket(file: &[u8], at: usize) -> usize
             file[place + 14],
             file[place + 19],
         );
+        place += 20;
     }
     (hash / 262144) as usize
 }

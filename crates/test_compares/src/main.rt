@@ -9,14 +9,14 @@ use std::alloc::Global;
 use std::fs::File;
 use std::io;
 use std::io::Read;
-use test_vectors::{Answer, BASIS, Counts, front, mix, next_number, read_front, replay_list};
+use test_vectors::{BASIS, Counts, StoredAnswer, front, mix, next_number, read_front, replay_list};
 
 // The file that is refused, 0 for none, and the answer, whose value is 1 for passed.
-fn told(compared: Result<bool, CompareError>) -> (u32, Answer) {
+fn told(compared: Result<bool, CompareError>) -> (u32, StoredAnswer) {
     match compared {
-        Ok(passed) => (0, Answer::from(Ok(passed as usize))),
-        Err(CompareError::Master(refusal)) => (1, Answer::from(Err(refusal))),
-        Err(CompareError::Other(refusal)) => (2, Answer::from(Err(refusal))),
+        Ok(passed) => (0, StoredAnswer::from(Ok(passed as usize))),
+        Err(CompareError::Master(refusal)) => (1, StoredAnswer::from(Err(refusal))),
+        Err(CompareError::Other(refusal)) => (2, StoredAnswer::from(Err(refusal))),
     }
 }
 
@@ -48,7 +48,7 @@ fn is_same(
         &mut image[..room],
         &mut other_image[..other_room],
     );
-    told(compared) == (read_u32(stored, 8), Answer::read(&stored[12..]))
+    told(compared) == (read_u32(stored, 8), StoredAnswer::read(&stored[12..]))
         && mix_all(image) == read_u32(stored, 24)
         && mix_all(other_image) == read_u32(stored, 28)
 }

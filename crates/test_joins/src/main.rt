@@ -9,18 +9,18 @@ use std::alloc::Global;
 use std::fs::File;
 use std::io;
 use std::io::Read;
-use test_vectors::{Answer, Counts, Lent, front, next_number, read_front, replay_list};
+use test_vectors::{Counts, Lent, StoredAnswer, front, next_number, read_front, replay_list};
 
 // What a file of the list has at most: 65,536 pools take so many bytes.
 const FILE_MOST: usize = 557115;
 
 // The file that is refused, which is 0 for none and for the join of both, and the answer.
-fn told(joined: Result<usize, JoinError>) -> (u32, Answer) {
+fn told(joined: Result<usize, JoinError>) -> (u32, StoredAnswer) {
     match joined {
-        Ok(size) => (0, Answer::from(Ok(size))),
-        Err(JoinError::First(refusal)) => (1, Answer::from(Err(refusal))),
-        Err(JoinError::Second(refusal)) => (2, Answer::from(Err(refusal))),
-        Err(JoinError::Neither(refusal)) => (0, Answer::from(Err(refusal))),
+        Ok(size) => (0, StoredAnswer::from(Ok(size))),
+        Err(JoinError::First(refusal)) => (1, StoredAnswer::from(Err(refusal))),
+        Err(JoinError::Second(refusal)) => (2, StoredAnswer::from(Err(refusal))),
+        Err(JoinError::Neither(refusal)) => (0, StoredAnswer::from(Err(refusal))),
     }
 }
 
@@ -30,8 +30,9 @@ fn compare<R: Read>(alloc: Global, input: &mut R, first: &[u8], second: &[u8]) -
     if !read_front(input, &mut head, 20)? {
         return Ok(false);
     }
-    let stored = (read_u32(&head, 4), Answer::read(&head[8..]));
-    match Lent::read(alloc, input, read_u32(&head, 0) as usize, stored.1.value)? {
+    let stored = (read_u32(&head, 4), StoredAnswer::read(&head[8..]));
+    let size = stored.1.value;
+    match Lent::read(alloc, input, read_u32(&head, 0) as usize, size, size)? {
         None => Ok(false),
         Some(mut lent) => {
             let answer = told(join(first, second, &mut lent.bytes));

@@ -2,7 +2,7 @@
 use base_format::{Refusal, StreamPlayer, WaveSource};
 use bytes_read::{byte_at, read_u16, read_u32};
 use test_records::flags;
-use test_vectors::{Answer, BASIS, mix};
+use test_vectors::{BASIS, StoredAnswer, mix};
 
 // What a step that is not refused does: a vsync call's count of records, whether the vsync is complete and the number of the records, which a
 // jump does not have; and the player behind the step.
@@ -17,7 +17,7 @@ pub(crate) struct Played {
 // The answer's value is the count. `sum` is made of the records, and then of the wave sources.
 #[derive(Clone, Copy, PartialEq, Eq)]
 pub(crate) struct Told {
-    answer: Answer,
+    answer: StoredAnswer,
     flags: u8,
     frame: u32,
     sum: u32,
@@ -42,15 +42,20 @@ fn mix_sources(sum: u32, sources: [WaveSource; 16]) -> u32 {
 }
 
 impl Told {
-    // What 32 bytes store of a step.
+    // What 32 bytes store of a step. Of its flags the player is finished by 4 to 7 alone.
     pub(crate) fn read(stored: &[u8]) -> Told {
+        let stored_flags = byte_at(stored, 5);
         Told {
-            answer: Answer {
+            answer: StoredAnswer {
                 number: byte_at(stored, 6) as u32,
                 place: read_u16(stored, 20) as usize,
                 value: read_u16(stored, 22) as usize,
             },
-            flags: byte_at(stored, 5),
+            flags: flags(
+                stored_flags % 2 == 1,
+                stored_flags / 2 % 2 == 1,
+                stored_flags / 4 == 1,
+            ),
             frame: read_u16(stored, 24) as u32,
             sum: read_u32(stored, 28),
         }
@@ -58,7 +63,7 @@ impl Told {
 
     // A refused step leaves the player as it was.
     pub(crate) fn by(state: StreamPlayer, played: Result<Played, Refusal>) -> (Told, StreamPlayer) {
-        let answer = Answer::from(played.map(|played| played.count));
+        let answer = StoredAnswer::from(played.map(|played| played.count));
         let Played {
             complete,
             records,

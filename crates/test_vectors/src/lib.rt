@@ -13,7 +13,7 @@ ghost use Rattle.test_vectors.specs.Counts.{CountsWith};
 ghost use Rattle.test_vectors.specs.Replays.{ReplaysAtMost, ReplaysSteps};
 ghost use Rattle.test_vectors.specs.Front.{ReadFront};
 
-pub use answer::Answer;
+pub use answer::StoredAnswer;
 pub use made::{Lent, replay_made};
 use std::io::{ErrorKind, Read};
 use std::ops::AddAssign;

@@ -1,9 +1,9 @@
 // Memory that a call fills, and what it is to hold then.
 
-ghost use Rattle.std.specs.Prelude.{◌≡◌, ◌<◌, ◌↔◌, drop, replicate, IfOk, IfSome, IsTrue};
+ghost use Rattle.std.specs.Prelude.{◌≡◌, ◌≤◌, ◌<◌, ◌↔◌, drop, length, replicate, IfOk, IfSome, IsTrue};
 ghost use Rattle.test_vectors.specs.Made.{Makes, MadeOf};
 
-use crate::{Answer, Counts, front, read_front};
+use crate::{Counts, StoredAnswer, front, read_front};
 use base_format::Refusal;
 use bytes_read::read_u32;
 use std::alloc::{AllocError, Global};
@@ -27,26 +27,53 @@ fn memory(alloc: Global, room: usize) -> Result<Vec<u8>, AllocError>
     vec![in alloc; 0xA5; room]
 }
 
+// Whether two memories are the same from a place on.
+fn same_behind(a: &[u8], b: &[u8], at: usize) -> bool
+    requires { (at ≤ length a.now) × (at ≤ length b.now) }
+    ensures { IsTrue result → drop at a.now ≡ drop at b.now }
+{
+    a[at..] == b[at..]
+}
+
+// So much room for a call. None where there are not so many bytes, or where others are expected behind those that the call makes.
+fn lend(
+    alloc: Global,
+    expected: Vec<u8>,
+    room: usize,
+    made: usize,
+) -> Result<Option<Lent>, AllocError>
+    ensures { IfOk result (λ read. IfSome read (λ lent. (lent.bytes.items ≡ replicate room 0xA5) × (drop made lent.expected.items ≡ drop made (replicate room 0xA5)))) }
+{
+    let bytes = memory(alloc, expected.len())?;
+    if expected.len() < room || room < made {
+        return Ok(None);
+    }
+    if !same_behind(&expected, &bytes, made) {
+        return Ok(None);
+    }
+    let mut lent = Lent { bytes, expected };
+    lent.bytes.truncate(room);
+    lent.expected.truncate(room);
+    Ok(Some(lent))
+}
+
 impl Lent {
-    // So much room for a call, of which it is to fill so many bytes, which the list has; behind them the lent bytes are to stay as they were.
-    // None where the room is larger than any of a list, or the bytes are not there.
+    // So much room for a call. Of the bytes that are expected behind it the list has the first ones, so many; behind those that the call
+    // makes they are as they were lent. None where the room is larger than any of a list, or the bytes are not there or are others.
     pub fn read<R: Read>(
         alloc: Global,
         input: &mut R,
         room: usize,
         size: usize,
+        made: usize,
     ) -> io::Result<Option<Lent>>
-        ensures { IfOk result (λ read. IfSome read (λ lent. (lent.bytes.items ≡ replicate room 0xA5) × (drop size lent.expected.items ≡ drop size (replicate room 0xA5)))) }
+        ensures { IfOk result (λ read. IfSome read (λ lent. (lent.bytes.items ≡ replicate room 0xA5) × (drop made lent.expected.items ≡ drop made (replicate room 0xA5)))) }
     {
-        if LENT_MOST < room {
-            return Ok(None);
-        }
-        let bytes = memory(alloc, room)?;
-        let mut expected = memory(alloc, room)?;
+        let mut expected = memory(alloc, LENT_MOST)?;
         if !read_front(input, &mut expected, size)? {
             return Ok(None);
         }
-        Ok(Some(Lent { bytes, expected }))
+        Ok(lend(alloc, expected, room, made)?)
     }
 
     // Whether the bytes are as expected.
@@ -60,14 +87,14 @@ impl Lent {
 // Whether a call answers as stored and makes of a file what is expected.
 fn makes<F: FnOnce(&[u8], &mut [u8]) -> Result<usize, Refusal>>(
     file: &[u8],
-    stored: Answer,
+    stored: StoredAnswer,
     mut lent: Lent,
     make: F,
 ) -> bool
     requires { F.IsAlwaysCallable make }
     ensures { IsTrue result → Makes F.FnOnce make lent.bytes.items stored lent.expected.items }
 {
-    let answer = Answer::from(make(file, &mut lent.bytes));
+    let answer = StoredAnswer::from(make(file, &mut lent.bytes));
     (answer == stored) & lent.is_made()
 }
 
@@ -90,9 +117,16 @@ pub fn replay_made<R: Read, F: FnOnce(&[u8], &mut [u8]) -> Result<usize, Refusal
     if !read_front(input, &mut head, 16)? {
         return Ok(Counts::from(false));
     }
-    let stored = Answer::read(&head[4..]);
-    match Lent::read(alloc, input, read_u32(&head, 0) as usize, stored.value)? {
+    let stored = StoredAnswer::read(&head[4..]);
+    let meant = stored.meant();
+    match Lent::read(
+        alloc,
+        input,
+        read_u32(&head, 0) as usize,
+        stored.value,
+        meant.value,
+    )? {
         None => Ok(Counts::from(false)),
-        Some(lent) => Ok(Counts::from(makes(front(&file, length as usize), stored, lent, make))),
+        Some(lent) => Ok(Counts::from(makes(front(&file, length as usize), meant, lent, make))),
     }
 }
