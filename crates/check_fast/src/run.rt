@@ -19,6 +19,8 @@ pub struct QuickRun {
 
 // The records of version 1 that stand at places up to `last`, where the bytes are that hold every item. No record that is passed has
 // target 11.
+// It is a function of its own for LLVM too, whose loop then has short jumps to its end.
+#[inline(never)]
 fn records_run(file: &[u8], table: &LimitTable, last: usize, count: u32, start: usize) -> QuickRun
     requires { last + operation_most ≤ length file.now }
     ensures { result ≡ records_run file.now table.now last count start }
